@@ -1,22 +1,20 @@
 -- A round more: rounds, noted or not, go on leading from the opening store to the last.
-use Rattle.std.proofs.Common.{◌≡◌, ℕ, ◌-◌, ◌^◌, ◌≤◌, min, List, [], ◌∷◌, ◌++◌, length, map, take, get_or, ◌↔◌, Option}
-use Rattle.std.proofs.Common.{Some, None, refl, sym, ap, subst, ◌∙◌, append_assoc, append-nil, inl, inr, arith}
+use Rattle.std.proofs.Common.{◌≡◌, ℕ, ◌-◌, ◌^◌, ◌<◌, ◌≤◌, min, List, [], ◌∷◌, ◌++◌, length, map, take, get_or, ◌↔◌}
+use Rattle.std.proofs.Common.{Option, Some, None, refl, sym, ap, subst, ◌∙◌, append_assoc, append-nil, inl, inr, arith}
 use Rattle.std.proofs.Common.{length-append}
-use Rattle.std.specs.Prelude.{All, Bool, true, false, IsSome, Result, Ok, Err, IfOk, OnErr}
+use Rattle.std.specs.Prelude.{All, Bool, true, false, IsSome}
 use Rattle.std.specs.Option.{option_map}
 use Rattle.std.proofs.lemmas.Bool.{cases_lt}
 use Rattle.std.proofs.lemmas.List.{length-map, length-take, get_or_append_left, get_or-append_right}
-use Rattle.grove_store.specs.StoreStates.{StoreState}
+use Rattle.grove_store.specs.StoreStates.{StoreState, IsSuccessor}
 use Rattle.grove_store.specs.Rounds.{IsLawfulRound}
 use Rattle.grove_tree.specs.Weights.{unweighed}
 use Rattle.grove_store.proofs.RoundsKeep.{round_keeps}
 use Rattle.std.proofs.lemmas.Option.{slice_get-map, slice_get-get_or}
 use Rattle.grove_desk.specs.Receipts.{ReceiptState, AreNumberedFrom, number_at}
-use Rattle.grove_desk.specs.Histories.{RoundState, IsRound, store_before, Leads, Led, IsReached, IsDeskReceipt}
-use Rattle.grove_desk.specs.Histories.{receipts_in}
-use Rattle.grove_desk.specs.Ledgers.{JournalState, noted_in, next_number, IsJournal, IsJournalOf, IsLedger}
-use Rattle.grove_desk.specs.Ledgers.{AreAnswered}
-use Rattle.grove_desk.specs.declared.asked.Asked.{Asked}
+use Rattle.grove_desk.specs.Histories.{RoundState, IsRound, store_before, Leads, Led, IsReached, IsKept}
+use Rattle.grove_desk.specs.Histories.{IsDeskReceipt, receipts_in}
+use Rattle.grove_desk.specs.Ledgers.{JournalState, noted_in, next_number, IsJournal, IsJournalOf, IsAccount}
 
 -- a round more at the end has no store before the first of the others
 before_more : (rounds : List RoundState) (round : RoundState) (last : StoreState)
@@ -94,15 +92,15 @@ led_more opening before after receipts led round =
       begins = before_more led.rounds it after ∙ led.begins;
     }
 
--- a ledger that has answered a round, and noted it where it keeps a journal, is one
-ledger_more : (opening : StoreState) (kept : Bool) (before after : StoreState) (journal noted : Option JournalState)
-    (receipts : List ReceiptState) → IsLedger opening kept before journal → IsRound before receipts after
-    → AreNumberedFrom (next_number journal) receipts
+-- an account goes on with a round that was answered, and noted where a journal is kept
+pub account_more : (opening : StoreState) (kept : Bool) (before after : StoreState)
+    (journal noted : Option JournalState) (receipts : List ReceiptState) → IsAccount opening kept before journal
+    → IsRound before receipts after → AreNumberedFrom (next_number journal) receipts
     → noted ≡ option_map (noted_in (record { before = before; receipts = receipts })) journal
-    → IsLedger opening kept after noted
-ledger_more opening kept before after journal noted receipts is round numbered more =
+    → IsAccount opening kept after noted
+account_more opening kept before after journal noted receipts is round numbered more =
     let it : RoundState = record { before = before; receipts = receipts } in
-    subst (λ (j : Option JournalState). IsLedger opening kept after j) (sym more) (record {
+    subst (λ (j : Option JournalState). IsAccount opening kept after j) (sym more) (record {
       led = led_more opening before after receipts is.led round;
       account = kept_more opening journal it after is.account round numbered;
       keeps = some_more it journal kept is.keeps;
@@ -118,6 +116,11 @@ few_replies line_of before after texts lines replies are round =
     let cut = length-take (length replies) texts in
     omega arith
 
+-- the store after a round is a successor of the one before
+pub next_of : (before after : StoreState) (receipts : List ReceiptState) → IsRound before receipts after
+    → IsSuccessor before after
+next_of before after receipts round = (round_keeps before _ _ after round.round).0
+
 -- rounds keep the names
 names_kept : (rounds : List RoundState) (last : StoreState) → Leads rounds last
     → unweighed last.rows ≡ unweighed (store_before rounds last).rows
@@ -129,26 +132,30 @@ names_kept (round ∷ rounds) last leads = names_kept rounds last leads.1
 led_names : (opening last : StoreState) → Led opening last → unweighed last.rows ≡ unweighed opening.rows
 led_names opening last led = names_kept led.rounds last led.leads ∙ ap (λ (s : StoreState). unweighed s.rows) led.begins
 
--- each receipt of a round is reached where lawful rounds lead to the store before it
-reached_by : (opening before after : StoreState) (receipts : List ReceiptState) → Led opening before
-    → IsRound before receipts after → All (IsReached opening) receipts
-reached_by opening before after receipts led round place other lt = record {
-  allowed = record {
-    before = before;
-    after = after;
-    lines = map (λ (e : ReceiptState). e.line) receipts;
-    replies = map (λ (e : ReceiptState). e.reply) receipts;
-    place = place;
-    over = led_names opening before led;
-    round = round.round;
-    asked = slice_get-map (λ (e : ReceiptState). e.line) receipts place
-        ∙ ap (option_map (λ (e : ReceiptState). e.line)) (slice_get-get_or receipts place other lt);
-    replied = slice_get-map (λ (e : ReceiptState). e.reply) receipts place
-        ∙ ap (option_map (λ (e : ReceiptState). e.reply)) (slice_get-get_or receipts place other lt);
-    counted = sym (round.counted place other lt);
-  };
-  led = led;
-}
+-- a receipt of a round is reached where lawful rounds lead to the store before it, by that round
+reached_by : (opening before after : StoreState) (receipts : List ReceiptState) (place : ℕ) (other : ReceiptState)
+    → place < length receipts → Led opening before → IsRound before receipts after
+    → (reaches : IsReached opening (get_or receipts place other)) × (reaches.allowed.after ≡ after)
+reached_by opening before after receipts place other lt led round = (
+  record {
+    allowed = record {
+      before = before;
+      after = after;
+      lines = map (λ (e : ReceiptState). e.line) receipts;
+      replies = map (λ (e : ReceiptState). e.reply) receipts;
+      place = place;
+      over = led_names opening before led;
+      round = round.round;
+      asked = slice_get-map (λ (e : ReceiptState). e.line) receipts place
+          ∙ ap (option_map (λ (e : ReceiptState). e.line)) (slice_get-get_or receipts place other lt);
+      replied = slice_get-map (λ (e : ReceiptState). e.reply) receipts place
+          ∙ ap (option_map (λ (e : ReceiptState). e.reply)) (slice_get-get_or receipts place other lt);
+      counted = sym (round.counted place other lt);
+    };
+    led = led;
+  },
+  refl,
+)
 
 -- without a journal the receipts have the number 0
 unnumbered : (journal : Option JournalState) (kept : Bool) (receipt : ReceiptState) (place : ℕ)
@@ -157,50 +164,14 @@ unnumbered : (journal : Option JournalState) (kept : Bool) (receipt : ReceiptSta
 unnumbered None kept receipt place some is plain = is
 unnumbered (Some journal) kept receipt place some is plain = let yes : kept ≡ true = some.0 refl in absurd (cc)
 
--- a ledger's receipts are answers of its desk
-answered_by : (opening : StoreState) (kept : Bool) (before after : StoreState) (journal : Option JournalState)
-    (receipts : List ReceiptState) → IsLedger opening kept before journal → IsRound before receipts after
-    → AreNumberedFrom (next_number journal) receipts
-    → All (IsDeskReceipt opening kept) receipts
-answered_by opening kept before after journal receipts is round numbered place other lt =
-    let receipt = get_or receipts place other in record {
-      reached = reached_by opening before after receipts is.led round place other lt;
-      unnumbered = unnumbered journal kept receipt place is.keeps (numbered place other lt);
+-- the receipts of a round that was kept are answers of the desk
+pub answered_by : {K : Type 0} (stands_for : K → StoreState → Type 0) (opening : StoreState) (kept : Bool)
+    (before after : StoreState) (journal : Option JournalState) (receipts : List ReceiptState)
+    → IsAccount opening kept before journal → IsRound before receipts after
+    → AreNumberedFrom (next_number journal) receipts → IsKept stands_for after
+    → All (IsDeskReceipt stands_for opening kept) receipts
+answered_by stands_for opening kept before after journal receipts is round numbered stands place other lt =
+    let reached = reached_by opening before after receipts place other lt is.led round in record {
+      answered = record { reached = reached.0; stands = subst (IsKept stands_for) (sym reached.1) stands };
+      unnumbered = unnumbered journal kept (get_or receipts place other) place is.keeps (numbered place other lt);
     }
-
--- whether a round was answered and noted or refused, the ledger is one afterwards
-pub noted_after : {X E : Type 0} (result : Result X E) (receipts_of : X → List ReceiptState) (opening : StoreState)
-    (kept : Bool) (before after : StoreState) (old new : List Asked) (journal noted : JournalState)
-    → IsLedger opening kept before (Some journal)
-    → IfOk result (λ x. AreAnswered before after old new (receipts_of x))
-    → IfOk result (λ x. AreNumberedFrom (Some journal.lines) (receipts_of x))
-    → IfOk result (λ x. noted ≡ noted_in (record { before = before; receipts = receipts_of x }) journal)
-    → OnErr result ((noted ≡ journal) × (after ≡ before)) → IsLedger opening kept after (Some noted)
-noted_after (Ok x) receipts_of opening kept before after old new journal noted is are numbered more same =
-    ledger_more opening kept before after (Some journal) (Some noted) (receipts_of x) is are.round numbered
-    (ap Some more)
-noted_after (Err e) receipts_of opening kept before after old new journal noted is are numbered more same =
-    subst (λ (s : StoreState). IsLedger opening kept s (Some noted)) (sym same.1)
-    (subst (λ (j : JournalState). IsLedger opening kept before (Some j)) (sym same.0) is)
-
--- and so is a ledger without a journal
-pub plain_after : {X E : Type 0} (result : Result X E) (receipts_of : X → List ReceiptState) (opening : StoreState)
-    (kept : Bool) (before after : StoreState) (old new : List Asked) → IsLedger opening kept before None
-    → IfOk result (λ x. AreAnswered before after old new (receipts_of x))
-    → IfOk result (λ x. AreNumberedFrom None (receipts_of x))
-    → OnErr result (after ≡ before) → IsLedger opening kept after None
-plain_after (Ok x) receipts_of opening kept before after old new is are numbered same =
-    ledger_more opening kept before after None None (receipts_of x) is are.round numbered refl
-plain_after (Err e) receipts_of opening kept before after old new is are numbered same =
-    subst (λ (s : StoreState). IsLedger opening kept s None) (sym same) is
-
--- where a round was answered, its receipts are answers of the desk
-pub answered_where : {X E : Type 0} (result : Result X E) (receipts_of : X → List ReceiptState) (opening : StoreState)
-    (kept : Bool) (before after : StoreState) (old new : List Asked) (journal : Option JournalState)
-    → IsLedger opening kept before journal
-    → IfOk result (λ x. AreAnswered before after old new (receipts_of x))
-    → IfOk result (λ x. AreNumberedFrom (next_number journal) (receipts_of x))
-    → IfOk result (λ x. All (IsDeskReceipt opening kept) (receipts_of x))
-answered_where (Ok x) receipts_of opening kept before after old new journal is are numbered =
-    answered_by opening kept before after journal (receipts_of x) is are.round numbered
-answered_where (Err e) receipts_of opening kept before after old new journal is are numbered = tt

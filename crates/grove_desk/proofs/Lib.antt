@@ -3,4 +3,3 @@ pub mod Noting
 pub mod Keeping
 pub mod Places
 pub mod Sharing
-pub mod Slots

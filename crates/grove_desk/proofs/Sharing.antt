@@ -14,20 +14,22 @@ use Rattle.grove_wire.specs.contracts.line.Line.TheInside as LineInside
 use Rattle.grove_tree.specs.contracts.name.Name as Name
 use Rattle.grove_tree.specs.contracts.outline.Outline as Outline
 use Rattle.grove_desk.specs.declared.opening.Opening as opening
+use Rattle.grove_store.specs.declared.keeper.Keeper as keeper
 use Rattle.grove_store.specs.contracts.store.Store as Store
 use Rattle.grove_build.specs.contracts.kept_plans.counts.PlanCounts as Counts
-use Rattle.std.specs.contracts.marker.PhantomData as Phantom
 use Rattle.grove_desk.specs.contracts.journal.Journal as Journal
 use Rattle.std.specs.contracts.vec.Vec as Vec
 use Rattle.std.specs.contracts.alloc.Global as Heap
 use Rattle.std.specs.contracts.impls.GlobalAllocator.TheImpl.{ghosts}
 use Rattle.std.specs.contracts.sync.Mutex as Mutex
+use Rattle.grove_desk.specs.contracts.receipt.Receipt as Receipt
+use Rattle.grove_desk.specs.contracts.desk_receipt.DeskReceipt as DeskReceipt
+use Rattle.grove_desk.specs.contracts.desk_receipt.DeskReceipt.TheInside as ReceiptInside
 use Rattle.grove_desk.specs.contracts.slot.Slot as Slot
 use Rattle.grove_desk.specs.contracts.bells.Bells as Bells
 use Rattle.grove_desk.specs.contracts.ledger.Ledger as Ledger
 use Rattle.grove_desk.specs.contracts.ledger.Ledger.TheInside as Inside
 use Rattle.grove_desk.specs.contracts.board.Board as Board
-use Rattle.grove_desk.specs.contracts.board.Board.TheInside as BoardInside
 use Rattle.grove_desk.specs.contracts.desk.Desk.TheInside as DeskInside
 use Rattle.grove_desk.specs.contracts.desk.Desk as Desk
 
@@ -53,20 +55,8 @@ Store-send = search (sendable, crosses, Outline-send, Outline-sync) depth 60 fit
 Journal-send : IsSend Journal.the_row
 Journal-send = search (sendable, crosses, Store-send) depth 60 fits 4000
 
-Phantom-send : (B : RattleType) → IsSend B → IsSend (Phantom.the_row B)
-Phantom-send B send = search (sendable, crosses, send) depth 60 fits 4000
-
--- and so does a ledger
-Inside-send : (B : RattleType) (picked : opening.Ghosts B.Denot) → IsSend B → IsSync B
-    → IsSend (Inside.the_row B picked)
-Inside-send B picked send sync =
-    let each : AllSend (shape (Inside.the_type B picked)).fields =
-    search (sendable, crosses, Store-send, Journal-send, Phantom-send, send, sync) depth 60 fits 4000 in
-    recorded_send _ _ _ (Inside.the_type B picked).to_one (struct_send (shape (Inside.the_type B picked)) each)
-
-Ledger-send : (B : RattleType) (picked : opening.Ghosts B.Denot) → IsSend B → IsSync B
-    → IsSend (Ledger.the_row B picked)
-Ledger-send B picked send sync = view_send _ _ _ _ _ (Inside-send B picked send sync)
+Receipt-send : IsSend (Receipt.the_field).row
+Receipt-send = search (sendable, crosses) depth 60 fits 4000
 
 -- a line with what was read of it does too
 Kept-send : IsSend (Kept.the_field).row
@@ -81,56 +71,78 @@ LineInside-send =
 Line-send : IsSend Line.the_row
 Line-send = view_send _ _ _ _ _ LineInside-send
 
-Slot-send : IsSend Slot.the_row
-Slot-send = search (sendable, crosses, Line-send) depth 60 fits 4000
-
-Slots-send : IsSend (Vec.the_row Slot.the_row Heap.the_row ghosts)
-Slots-send = Vec-send Slot.the_row Slot-send
-
 Numbers-send : IsSend (Vec.the_row u64 Heap.the_row ghosts)
 Numbers-send = Vec-send u64 (search (sendable, crosses))
 
 Counts-send : IsSend (Counts.the_field).row
 Counts-send = search (sendable, crosses) depth 60 fits 4000
 
--- and what lies behind the lock
-BoardInside-send : (B : RattleType) (picked : opening.Ghosts B.Denot) → IsSend B → IsSync B
-    → IsSend (BoardInside.the_row B picked)
-BoardInside-send B picked send sync =
-    let ledger = Ledger-send B picked send sync in
-    let each : AllSend (shape (BoardInside.the_type B picked)).fields = (
-      search (sendable, crosses, ledger) depth 60 fits 4000,
-      (
-        Slots-send,
-        (
-          search (sendable, crosses),
-          (
-            search (sendable, crosses),
-            (search (sendable, crosses), (search (sendable, crosses), (Counts-send, (Numbers-send, tt)))),
-          ),
-        ),
-      ),
-    ) in
-    recorded_send _ _ _ (BoardInside.the_type B picked).to_one
-    (struct_send (shape (BoardInside.the_type B picked)) each)
-
-Board-send : (B : RattleType) (picked : opening.Ghosts B.Denot) → IsSend B → IsSync B → IsSend (Board.the_row B picked)
-Board-send B picked send sync = view_send _ _ _ _ _ (BoardInside-send B picked send sync)
-
 Bells-sync : IsSync (Bells.the_field).row
 Bells-sync = search (sendable, crosses) depth 60 fits 4000
 
-DeskInside-sync : (B : RattleType) (picked : opening.Ghosts B.Denot) → IsSend B → IsSync B
-    → IsSync (DeskInside.the_row B picked)
-DeskInside-sync B picked send sync =
-    let board = Board-send B picked send sync in
-    let lock : IsSync (Mutex.the_row (Board.the_row B picked)) = search (sendable, crosses, board) depth 60 fits 4000 in
-    let each : AllSync (shape (DeskInside.the_type B picked)).fields =
-    (search (sendable, crosses), (lock, (Bells-sync, (search (sendable, crosses), (search (sendable, crosses), tt)))))
-    in
-    recorded_sync _ _ _ (DeskInside.the_type B picked).to_one (struct_sync (shape (DeskInside.the_type B picked)) each)
+module _ (B K : RattleType) (picked : opening.Ghosts B.Denot) (keeps : keeper.Ghosts K.Denot)
+    (keeper_send : IsSend K) where
+  -- a ledger goes from one thread to another
+  Inside-send : IsSend (Inside.the_row B K picked keeps)
+  Inside-send =
+      let each : AllSend (shape (Inside.the_type B K picked keeps)).fields =
+      search (sendable, crosses, Store-send, Journal-send, keeper_send) depth 60 fits 4000 in
+      recorded_send _ _ _ (Inside.the_type B K picked keeps).to_one
+      (struct_send (shape (Inside.the_type B K picked keeps)) each)
 
--- each part of a desk may be read by several threads at once, or stands behind its lock
-pub Desk-sync : (B : RattleType) (picked : opening.Ghosts B.Denot) → IsSend B → IsSync B
-    → IsSync (Desk.the_row B picked)
-Desk-sync B picked send sync = view_sync _ _ _ _ _ (DeskInside-sync B picked send sync)
+  Ledger-send : IsSend (Ledger.the_row B K picked keeps)
+  Ledger-send = view_send _ _ _ _ _ Inside-send
+
+  -- so does a receipt that waits to be taken
+  ReceiptInside-send : IsSend (ReceiptInside.the_row B K picked keeps)
+  ReceiptInside-send =
+      let each : AllSend (shape (ReceiptInside.the_type B K picked keeps)).fields =
+      (Receipt-send, (search (sendable, crosses), (search (sendable, crosses), tt))) in
+      recorded_send _ _ _ (ReceiptInside.the_type B K picked keeps).to_one
+      (struct_send (shape (ReceiptInside.the_type B K picked keeps)) each)
+
+  DeskReceipt-send : IsSend (DeskReceipt.the_row B K picked keeps)
+  DeskReceipt-send = view_send _ _ _ _ _ ReceiptInside-send
+
+  Slot-send : IsSend (Slot.the_row B K picked keeps)
+  Slot-send = search (sendable, crosses, Line-send, DeskReceipt-send) depth 80 fits 8000
+
+  Slots-send : IsSend (Vec.the_row (Slot.the_row B K picked keeps) Heap.the_row ghosts)
+  Slots-send = Vec-send (Slot.the_row B K picked keeps) Slot-send
+
+  -- and what lies behind the lock
+  Board-send : IsSend (Board.the_row B K picked keeps)
+  Board-send =
+      let each : AllSend (shape (Board.the_type B K picked keeps)).fields = (
+        search (sendable, crosses, Ledger-send) depth 60 fits 4000,
+        (
+          Slots-send,
+          (
+            search (sendable, crosses),
+            (
+              search (sendable, crosses),
+              (
+                search (sendable, crosses),
+                (search (sendable, crosses), (Counts-send, (search (sendable, crosses), (Numbers-send, tt)))),
+              ),
+            ),
+          ),
+        ),
+      ) in
+      recorded_send _ _ _ (Board.the_type B K picked keeps).to_one
+      (struct_send (shape (Board.the_type B K picked keeps)) each)
+
+  DeskInside-sync : IsSync (DeskInside.the_row B K picked keeps)
+  DeskInside-sync =
+      let lock : IsSync (Mutex.the_row (Board.the_row B K picked keeps)) =
+      search (sendable, crosses, Board-send) depth 60 fits 4000 in
+      let each : AllSync (shape (DeskInside.the_type B K picked keeps)).fields = (
+        search (sendable, crosses),
+        (lock, (Bells-sync, (search (sendable, crosses), (search (sendable, crosses), tt)))),
+      ) in
+      recorded_sync _ _ _ (DeskInside.the_type B K picked keeps).to_one
+      (struct_sync (shape (DeskInside.the_type B K picked keeps)) each)
+
+  -- each part of a desk may be read by several threads at once, or stands behind its lock
+  pub Desk-sync : IsSync (Desk.the_row B K picked keeps)
+  Desk-sync = view_sync _ _ _ _ _ DeskInside-sync

@@ -25,6 +25,11 @@ abbrev pub TellsLater : StoreState → ℕ → Awaited → Type 0
 TellsLater opening after (Later store) = Led opening store × (after < store.rounds)
 TellsLater opening after (Unchanged store) = Led opening store × (store.rounds ≤ after)
 
+-- the store of which a copy was waited for
+abbrev pub store_told : Awaited → StoreState
+store_told (Later store) = store
+store_told (Unchanged store) = store
+
 -- the count of rounds of a last receipt, 0 before the first
 abbrev pub rounds_seen : Option ReceiptState → ℕ
 rounds_seen None = 0

@@ -41,9 +41,21 @@ pub record Reaches (opening : StoreState) (line reply : List ℕ) (rounds : ℕ)
 abbrev pub IsReached : StoreState → ReceiptState → Type 0
 IsReached opening receipt = Reaches opening receipt.line receipt.reply receipt.rounds
 
--- what a desk with this opening store answers: such a receipt, with the number 0 where no journal is kept
-pub record IsDeskReceipt (opening : StoreState) (kept : Bool) (receipt : ReceiptState) : Type 0 where
+-- something that keeps stores stands for this one
+pub record IsKept {K : Type 0} (stands_for : K → StoreState → Type 0) (store : StoreState) : Type 0 where
+  pub keeper : K
+  pub stands : stands_for keeper store
+
+-- such a round answers the line, and the store that it left was kept before the receipt was given
+pub record IsKeptReceipt {K : Type 0} (stands_for : K → StoreState → Type 0) (opening : StoreState)
+    (receipt : ReceiptState) : Type 0 where
   pub reached : IsReached opening receipt
+  pub stands : IsKept stands_for reached.allowed.after
+
+-- what a desk with this opening store answers: such a receipt, with the number 0 where no journal is kept
+pub record IsDeskReceipt {K : Type 0} (stands_for : K → StoreState → Type 0) (opening : StoreState) (kept : Bool)
+    (receipt : ReceiptState) : Type 0 where
+  pub answered : IsKeptReceipt stands_for opening receipt
   pub unnumbered : kept ≡ false → receipt.number ≡ 0
 
 -- the receipts of all rounds, in order

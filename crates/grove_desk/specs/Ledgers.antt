@@ -1,6 +1,6 @@
--- For the proofs alone: a store and its journal, which change together.
-use Rattle.std.specs.Prelude.{◌≡◌, ℕ, ◌+◌, ◌-◌, ◌^◌, ◌↔◌, min, Bool, true, List, [], ◌∷◌, ◌++◌, Option, Some, None}
-use Rattle.std.specs.Prelude.{length, map, take, drop, All, IsSome}
+-- For the proofs alone: a store, its journal and what keeps it, which change together.
+use Rattle.std.specs.Prelude.{◌≡◌, ℕ, ◌+◌, ◌-◌, ◌^◌, ◌↔◌, min, Bool, true, false, List, [], ◌∷◌, ◌++◌}
+use Rattle.std.specs.Prelude.{Option, Some, None, length, map, take, drop, All, IsSome}
 use Rattle.grove_store.specs.StoreStates.{StoreState}
 use Rattle.grove_desk.specs.Receipts.{ReceiptState, AreNumberedFrom}
 use Rattle.grove_desk.specs.Histories.{RoundState, IsRound, Leads, Led, store_before, receipts_in}
@@ -11,9 +11,12 @@ pub record JournalState : Type 0 where
   pub rounds : List RoundState
   pub lines : ℕ
 
-pub record LedgerState : Type 0 where
+-- a store, what keeps it, its journal, and whether a round couldn't be kept
+pub record LedgerState (K : Type 0) : Type 0 where
   pub store : StoreState
+  pub keeper : K
   pub journal : Option JournalState
+  pub failed : Bool
 
 -- a round more
 abbrev pub noted_in : RoundState → JournalState → JournalState
@@ -39,11 +42,17 @@ IsJournalOf opening None last = Unit {0}
 IsJournalOf opening (Some journal) last = IsJournal opening journal last
 
 -- lawful rounds lead from the opening store to this one, whether or not they were noted, and a journal has them all
-pub record IsLedger (opening : StoreState) (kept : Bool) (store : StoreState) (journal : Option JournalState) : Type 0
+pub record IsAccount (opening : StoreState) (kept : Bool) (store : StoreState) (journal : Option JournalState) : Type 0
   where
     pub led : Led opening store
     pub account : IsJournalOf opening journal store
     pub keeps : IsSome journal ↔ (kept ≡ true)
+
+-- and the keeper stands for the store, unless it has failed
+pub record IsLedger {K : Type 0} (stands_for : K → StoreState → Type 0) (opening : StoreState) (kept : Bool)
+    (ledger : LedgerState K) : Type 0 where
+  pub account : IsAccount opening kept ledger.store ledger.journal
+  pub stands : ledger.failed ≡ false → stands_for ledger.keeper ledger.store
 
 -- the receipts of the first of the lines, with these replies and this count of rounds, numbered from the first on
 pub record AreReceiptsOf (first : Option ℕ) (lines replies : List (List ℕ)) (rounds : ℕ)

@@ -1,24 +1,23 @@
-ghost use Rattle.std.specs.Prelude.{◌≡◌, ◌<◌, [], length, All, IfOk, IfSome, IfNone, Bool};
+ghost use Rattle.std.specs.Prelude.{◌≡◌, ◌<◌, [], length, All, IfOk, IfSome, IfNone};
 ghost use Rattle.std.specs.Vec.{vec_capacity};
-ghost use Rattle.grove_store.specs.StoreStates.{StoreState};
-ghost use Rattle.grove_desk.specs.Histories.{IsDeskReceipt};
-ghost use Rattle.grove_desk.specs.Histories.{Led};
-ghost use Rattle.grove_desk.specs.Boards.{KeepsState, Holds, SlotHolds, Takes};
+ghost use Rattle.grove_desk.specs.Histories.{Led, IsKept, IsDeskReceipt};
+ghost use Rattle.grove_desk.specs.Boards.{Takes};
 
 use crate::asked::Asked;
 use crate::bells::Rings;
+use crate::desk_receipt::DeskReceipt;
+use crate::fault::NoReceipt;
 use crate::ledger::Ledger;
 use crate::pipeline::Pipeline;
 use crate::slot::Slot;
 use crate::state::State;
 use crate::turn::Turn;
-use crate::{Opening, Receipt};
+use crate::{DeskFault, Opening, Receipt};
 use grove_build::PlanCounts;
-use grove_store::Store;
+use grove_store::{Keeper, Store};
 use grove_tree::NoMemory;
 use grove_wire::Line;
 use std::alloc::Global;
-use std::marker::Model;
 
 /// How many callers may wait with their lines, and the most lines that leave with the store at once.
 pub(crate) const MOST_LINES: usize = 16;
@@ -26,9 +25,9 @@ pub(crate) const MOST_LINES: usize = 16;
 /// What lies behind a desk's lock: the store with its journal, unless they are out, and the lines that were put and not
 /// yet taken, in the order in which they were put.
 #[derive(Drop)]
-pub(crate) struct Board<B: Opening> {
-    ledger: Option<Ledger<B>>,
-    slots: Vec<Slot>,
+pub(crate) struct Board<B: Opening, K: Keeper> {
+    ledger: Option<Ledger<B, K>>,
+    slots: Vec<Slot<B, K>>,
     tickets: u64,
     /// How many callers wait for a copy of the store. While there are any, it isn't taken.
     copies: u64,
@@ -38,29 +37,18 @@ pub(crate) struct Board<B: Opening> {
     rounds: u64,
     /// What the store had counted of plans by then.
     plans: PlanCounts,
+    /// Had the keeper failed to keep a round by then?
+    failed: bool,
     /// For each caller who waits for a later round: which one it has to be later than.
     awaited: Vec<u64>,
 }
 
-impl<B: Opening> Model for Board<B> {
-    ghost use Rattle.std.specs.Prelude.{List, All};
-    ghost use Rattle.grove_desk.specs.declared.slot.Slot.{Slot};
-    ghost use Rattle.grove_desk.specs.Boards.{SlotHolds};
-
-    ghost Value = { List Slot };
-
-    ghost view = { λ board. board.slots.items };
-
-    ghost invariant = { λ board. All (SlotHolds B.store B.kept) board.slots.items };
-}
-
-impl<B: Opening> Board<B> {
-    pub(crate) fn new(alloc: Global, ledger: Ledger<B>) -> Self
-        ensures { result ≡ [] }
-    {
+impl<B: Opening, K: Keeper + Drop> Board<B, K> {
+    pub(crate) fn new(alloc: Global, ledger: Ledger<B, K>) -> Self {
         Board {
             rounds: ledger.rounds(),
             plans: ledger.plan_counts(),
+            failed: ledger.has_failed(),
             ledger: Some(ledger),
             slots: Vec::new(alloc),
             tickets: 0,
@@ -71,15 +59,13 @@ impl<B: Opening> Board<B> {
     }
 
     /// The store with its journal, where they are here.
-    pub(crate) fn into_ledger(self) -> Option<Ledger<B>> {
+    pub(crate) fn into_ledger(self) -> Option<Ledger<B, K>> {
         let Board { ledger, .. } = self;
         ledger
     }
 
     /// Puts lines behind all others, and gives their ticket.
-    pub(crate) fn put(&mut self, lines: Pipeline) -> Result<u64, NoMemory>
-        requires { Holds B.store B.kept lines }
-    {
+    pub(crate) fn put(&mut self, lines: Pipeline<B, K>) -> Result<u64, NoMemory> {
         let ticket = self.tickets;
         self.slots.push(Slot { ticket, lines })?;
         self.tickets = self.tickets.wrapping_add(1);
@@ -134,6 +120,11 @@ impl<B: Opening> Board<B> {
         self.plans
     }
 
+    /// Had the keeper failed to keep a round when the store was last here?
+    pub(crate) fn has_failed(&self) -> bool {
+        self.failed
+    }
+
     /// A caller waits for a round later than this one.
     pub(crate) fn await_round(&mut self, after: u64) -> Result<(), NoMemory> {
         Ok(self.awaited.push(after)?)
@@ -178,8 +169,9 @@ impl<B: Opening> Board<B> {
     }
 
     /// A copy of the store, for a caller who wanted one, where the store is here.
-    pub(crate) fn store_copy(&mut self, alloc: Global) -> Option<Result<Store, NoMemory>>
-        ensures { IfSome result (λ copy. IfOk copy (Led B.store)) }
+    pub(crate) fn store_copy(&mut self, alloc: Global) -> Option<Result<Store, DeskFault>>
+        ensures led { IfSome result (λ copy. IfOk copy (Led B.store)) }
+        ensures kept { IfSome result (λ copy. IfOk copy (IsKept K.stands_for)) }
     {
         let ledger = self.ledger.as_ref()?;
         let copy = ledger.store_copy(alloc);
@@ -194,9 +186,9 @@ impl<B: Opening> Board<B> {
         ticket: u64,
         may_go: bool,
         taken: &mut Vec<Asked>,
-    ) -> Turn<Ledger<B>>
+    ) -> Turn<Pipeline<B, K>, Ledger<B, K>>
         requires { taken.old.items ≡ [] }
-        ensures lines { Takes B.store B.kept result taken.new.items }
+        ensures lines { Takes result taken.new.items }
         ensures room { vec_capacity taken.new ≡ vec_capacity taken.old }
     {
         if let Some(lines) = self.collect(ticket, may_go) {
@@ -209,9 +201,7 @@ impl<B: Opening> Board<B> {
     }
 
     /// Takes the lines of this ticket off the board, where all are settled, or one is and their caller may go then.
-    fn collect(&mut self, ticket: u64, may_go: bool) -> Option<Pipeline>
-        ensures { IfSome result (Holds B.store B.kept) }
-    {
+    fn collect(&mut self, ticket: u64, may_go: bool) -> Option<Pipeline<B, K>> {
         let place = place_of(&self.slots, ticket)?;
         let lines = &self.slots[place].lines;
         if !lines.is_settled() && !(may_go && lines.has_settled()) {
@@ -222,7 +212,7 @@ impl<B: Opening> Board<B> {
     }
 
     /// Takes the store with the first lines that wait, one of each caller, where both are here.
-    fn take(&mut self, taken: &mut Vec<Asked>) -> Option<Ledger<B>>
+    fn take(&mut self, taken: &mut Vec<Asked>) -> Option<Ledger<B, K>>
         requires { taken.old.items ≡ [] }
         ensures some { IfSome result (λ _. 0 < length taken.new.items) }
         ensures none { IfNone result (taken.new.items ≡ []) }
@@ -247,11 +237,11 @@ impl<B: Opening> Board<B> {
     /// as many as there are receipts, or all of them a refusal. The other lines wait again, where they were.
     pub(crate) fn put_back(
         &mut self,
-        ledger: Ledger<B>,
+        ledger: Ledger<B, K>,
         taken: &mut Vec<Asked>,
-        mut answered: Result<Vec<Receipt>, NoMemory>,
+        mut answered: Result<Vec<Receipt>, NoReceipt>,
     )
-        requires { IfOk answered (λ receipts. All (IsDeskReceipt B.store B.kept) receipts.items) }
+        requires { IfOk answered (λ receipts. All (IsDeskReceipt K.stands_for B.store B.kept) receipts.items) }
         ensures taken { taken.new.items ≡ [] }
         ensures room { vec_capacity taken.new ≡ vec_capacity taken.old }
     {
@@ -261,16 +251,19 @@ impl<B: Opening> Board<B> {
         }
         self.rounds = ledger.rounds();
         self.plans = ledger.plan_counts();
+        self.failed = ledger.has_failed();
         self.ledger = Some(ledger);
     }
 }
 
 /// Takes the next line of the slot at this place, where it waits.
-fn take_line(slots: &mut Vec<Slot>, place: usize, taken: &mut Vec<Asked>)
+fn take_line<B: Opening, K: Keeper>(
+    slots: &mut Vec<Slot<B, K>>,
+    place: usize,
+    taken: &mut Vec<Asked>,
+)
     requires place { place < length slots.old.items }
     requires room { length taken.old.items < vec_capacity taken.old }
-    ensures held { (opening : StoreState) → (kept : Bool)
-        → All (SlotHolds opening kept) slots.old.items → All (SlotHolds opening kept) slots.new.items }
     ensures length { length slots.new.items ≡ length slots.old.items }
     ensures room { vec_capacity taken.new ≡ vec_capacity taken.old }
 {
@@ -284,31 +277,28 @@ fn take_line(slots: &mut Vec<Slot>, place: usize, taken: &mut Vec<Asked>)
 }
 
 /// Where the line that left under this ticket has got to now.
-fn settle(slots: &mut Vec<Slot>, ticket: u64, state: State)
-    ensures held { (opening : StoreState) → (kept : Bool) → KeepsState opening kept state
-        → All (SlotHolds opening kept) slots.old.items → All (SlotHolds opening kept) slots.new.items }
-{
+fn settle<B: Opening, K: Keeper>(slots: &mut Vec<Slot<B, K>>, ticket: u64, state: State<B, K>) {
     if let Some(place) = place_of(slots, ticket) {
         slots[place].lines.settle(state);
     }
 }
 
 /// Where the slot of a ticket stands.
-fn place_of(slots: &[Slot], ticket: u64) -> Option<usize>
+fn place_of<B: Opening, K: Keeper>(slots: &[Slot<B, K>], ticket: u64) -> Option<usize>
     ensures { IfSome result (λ place. place < length slots.now) }
 {
     slots.iter().position(|slot| slot.ticket == ticket)
 }
 
 /// Where a round has brought the last of its lines that isn't settled yet, at this place: it has its receipt, the last
-/// of those that are left, or waits again where there is none for it; without memory each line is refused.
-fn state_after(answered: &mut Result<Vec<Receipt>, NoMemory>, place: usize, line: Line) -> State
-    ensures state { (opening : StoreState) → (kept : Bool)
-        → IfOk answered.old (λ receipts. All (IsDeskReceipt opening kept) receipts.items)
-        → KeepsState opening kept result }
-    ensures left { (opening : StoreState) → (kept : Bool)
-        → IfOk answered.old (λ receipts. All (IsDeskReceipt opening kept) receipts.items)
-        → IfOk answered.new (λ receipts. All (IsDeskReceipt opening kept) receipts.items) }
+/// of those that are left, or waits again where there is none for it; where the round gave none, each line is refused.
+fn state_after<B: Opening, K: Keeper>(
+    answered: &mut Result<Vec<Receipt>, NoReceipt>,
+    place: usize,
+    line: Line,
+) -> State<B, K>
+    requires { IfOk answered.old (λ receipts. All (IsDeskReceipt K.stands_for B.store B.kept) receipts.items) }
+    ensures { IfOk answered.new (λ receipts. All (IsDeskReceipt K.stands_for B.store B.kept) receipts.items) }
 {
     match answered {
         Ok(receipts) => {
@@ -316,10 +306,10 @@ fn state_after(answered: &mut Result<Vec<Receipt>, NoMemory>, place: usize, line
                 return State::Waiting(line);
             }
             match receipts.pop() {
-                Some(receipt) => State::Done(Ok(receipt)),
+                Some(receipt) => State::Done(Ok(DeskReceipt::new(receipt))),
                 None => State::Waiting(line),
             }
         }
-        Err(NoMemory) => State::Done(Err(NoMemory)),
+        Err(why) => State::Done(Err(*why)),
     }
 }

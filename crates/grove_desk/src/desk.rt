@@ -1,22 +1,21 @@
-ghost use Rattle.std.specs.Prelude.{◌≡◌, ◌≤◌, Bool, false, length, None, Err, IfOk, IfSome};
+ghost use Rattle.std.specs.Prelude.{◌≡◌, ◌≤◌, false, length, None, Err, IfOk, IfSome};
 ghost use Rattle.std.specs.Option.{option_copied};
-ghost use Rattle.grove_store.specs.StoreStates.{StoreState};
 ghost use Rattle.grove_session.specs.declared.answers.TheConstants.{LINE_LIMIT};
 ghost use Rattle.grove_tree.specs.Weights.{unweighed};
-ghost use Rattle.grove_desk.specs.Boards.{Holds};
 ghost use Rattle.grove_desk.specs.Lines.{IsReceiptFor, AnswersAnother};
-ghost use Rattle.grove_desk.specs.Histories.{Led, IsDeskReceipt, IsReached};
+ghost use Rattle.grove_desk.specs.Histories.{Led, IsReached, IsKept, IsKeptReceipt, IsDeskReceipt};
 ghost use Rattle.grove_desk.specs.Receipts.{ReceiptState, IsAllowed, IsForeignReceipt, ComesAfter};
 
 use crate::bells::Bells;
 use crate::board::{Board, MOST_LINES};
+use crate::fault::NoReceipt;
 use crate::ledger::Ledger;
 use crate::pipeline::{Pipeline, WhoReads};
 use crate::turn::Leading;
 use crate::{DeskFault, Opening, Receipt, RoundWatch, Unwatched};
 pub use closing::Closed;
 use grove_session::LINE_LIMIT;
-use grove_store::Store;
+use grove_store::{InMemory, Keeper, Store};
 use grove_tree::{Gate, NoMemory};
 use std::alloc::Global;
 use std::marker::Model;
@@ -37,11 +36,12 @@ const LARGE_LINE: usize = 64 * 1024;
 
 /// A store that many callers share. Each puts a line and waits for its receipt; one of them, whoever finds the store
 /// there, takes it with the first lines that wait, answers them as one round, and puts it back. What it was opened with
-/// is known by its type: so no other store gets behind its lock.
+/// is known by its type: so no other store gets behind its lock. Each round is kept by the keeper before its lines have
+/// receipts. Once one can't be kept, the desk refuses every line and every copy of its store.
 #[derive(Drop)]
-pub struct Desk<B: Opening> {
+pub struct Desk<B: Opening, K: Keeper = InMemory> {
     kept: bool,
-    board: Mutex<Board<B>>,
+    board: Mutex<Board<B, K>>,
     bells: Bells,
     /// Taken by the one large line that is answered.
     large: Mutex<()>,
@@ -49,7 +49,7 @@ pub struct Desk<B: Opening> {
     alone: AtomicU64,
 }
 
-impl<B: Opening> Model for Desk<B> {
+impl<B: Opening, K: Keeper> Model for Desk<B, K> {
     ghost use Rattle.std.specs.Prelude.{◌≡◌};
     ghost use Rattle.grove_desk.specs.Desks.{DeskState};
 
@@ -60,14 +60,16 @@ impl<B: Opening> Model for Desk<B> {
     ghost invariant = { λ desk. desk.kept ≡ B.kept };
 }
 
-impl<B: Opening> Desk<B> {
-    /// A desk at which this store is shared, with a journal of every round where `kept` is set. It takes no memory.
-    pub fn open(alloc: Global, store: Store, kept: bool) -> Self
+impl<B: Opening, K: Keeper + Drop> Desk<B, K> {
+    /// A desk at which this store is shared, with what keeps it, and with a journal of every round where `kept` is set.
+    /// It takes no memory.
+    pub fn open(alloc: Global, store: Store, keeper: K, kept: bool) -> Self
         requires store { store ≡ B.store }
         requires kept { kept ≡ B.kept }
+        requires stands { K.stands_for keeper store }
         ensures { result ≡ record { opening = store; kept = kept } }
     {
-        let ledger = Ledger::new(alloc, store, kept);
+        let ledger = Ledger::new(alloc, store, keeper, kept);
         Desk {
             kept,
             board: Mutex::new(Board::new(alloc, ledger)),
@@ -81,7 +83,8 @@ impl<B: Opening> Desk<B> {
     /// may wait for others, and while lines of 16 callers wait it puts none; one of more than 65,536 bytes waits until
     /// none such is answered, so that no line waits for several of them. `seen` is a receipt that the new one has to
     /// come after. This caller's gate is called only in a round that it runs itself. `Memory`: the line had no effect.
-    /// `Foreign`: it may have had one.
+    /// `Foreign`: it may have had one. `Unkept`: it may have had one that isn't kept, and every line from then on is
+    /// refused so.
     pub fn answer<R: Threads + Wait + Sync, G: Gate + Sync>(
         &self,
         rt: &R,
@@ -94,10 +97,11 @@ impl<B: Opening> Desk<B> {
         ensures line { IfOk result (λ receipt. receipt.line ≡ line.now) }
         ensures allowed { IfOk result (IsAllowed (unweighed self.now.opening.rows)) }
         ensures reached { IfOk result (IsReached self.now.opening) }
+        ensures kept { IfOk result (IsKeptReceipt K.stands_for self.now.opening) }
         ensures follows { IfOk result (ComesAfter self.now.kept (option_copied seen.entry)) }
         ensures unnumbered { IfOk result (λ receipt. self.now.kept ≡ false → receipt.number ≡ 0) }
         ensures foreign { result ≡ Err DeskFault.Foreign
-            → (receipt : ReceiptState) × IsDeskReceipt self.now.opening self.now.kept receipt
+            → (receipt : ReceiptState) × IsDeskReceipt K.stands_for self.now.opening self.now.kept receipt
             × IsForeignReceipt self.now.kept line.now (option_copied seen.entry) receipt }
     {
         let mut lines = None;
@@ -119,24 +123,20 @@ impl<B: Opening> Desk<B> {
         &self,
         rt: &R,
         alloc: Global,
-        lines: &mut Option<Pipeline>,
+        lines: &mut Option<Pipeline<B, K>>,
         leading: Leading,
         seen: Option<&Receipt>,
         line: &[u8],
         gate: &G,
         watch: &W,
     ) -> Result<Receipt, DeskFault>
-        requires limit { length line.now ≤ LINE_LIMIT }
-        requires held { IfSome lines.old (Holds B.store B.kept) }
-        ensures held { IfSome lines.new (Holds B.store B.kept) }
-        ensures receipt { IfOk result (IsReceiptFor self.now line.now (option_copied seen.entry)) }
+        requires { length line.now ≤ LINE_LIMIT }
+        ensures receipt { IfOk result
+            (IsReceiptFor K.stands_for self.now line.now (option_copied seen.entry)) }
         ensures foreign { result ≡ Err DeskFault.Foreign
-            → AnswersAnother self.now line.now (option_copied seen.entry) }
+            → AnswersAnother K.stands_for self.now line.now (option_copied seen.entry) }
     {
-        let receipt = match settled_first(lines) {
-            Some(done) => done?,
-            None => self.put_next(rt, alloc, lines, leading, line, gate, watch)?,
-        };
+        let receipt = self.receive(rt, alloc, lines, leading, line, gate, watch)?;
         if receipt.is_of(line) && receipt.follows(seen, self.kept) {
             Ok(receipt)
         } else {
@@ -144,23 +144,25 @@ impl<B: Opening> Desk<B> {
         }
     }
 
-    /// Puts the lines that are left, or this one if there are none, and gives what the first of them was answered.
-    fn put_next<R: Threads + Wait + Sync, G: Gate + Sync, W: RoundWatch<R>>(
+    /// What the first of the lines that are left was answered. If it isn't settled, they are put, or this one if there
+    /// are none.
+    fn receive<R: Threads + Wait + Sync, G: Gate + Sync, W: RoundWatch<R>>(
         &self,
         rt: &R,
         alloc: Global,
-        lines: &mut Option<Pipeline>,
+        lines: &mut Option<Pipeline<B, K>>,
         leading: Leading,
         line: &[u8],
         gate: &G,
         watch: &W,
     ) -> Result<Receipt, DeskFault>
-        requires limit { length line.now ≤ LINE_LIMIT }
-        requires held { IfSome lines.old (Holds B.store B.kept) }
-        ensures held { IfSome lines.new (Holds B.store B.kept) }
-        ensures receipt { IfOk result (IsDeskReceipt B.store B.kept) }
+        requires { length line.now ≤ LINE_LIMIT }
+        ensures receipt { IfOk result (IsDeskReceipt K.stands_for B.store B.kept) }
         ensures foreign { result ≡ Err DeskFault.Foreign → ⊥ }
     {
+        if let Some(done) = settled_first(lines) {
+            return Ok(done?);
+        }
         let _turn = if line.len() > LARGE_LINE {
             Some(self.large.lock(rt))
         } else {
@@ -188,10 +190,16 @@ impl<B: Opening> Desk<B> {
         u32::try_from(self.board.lock(rt).waiting()).unwrap_or(u32::MAX)
     }
 
-    /// A copy of the store as it stands between two rounds. It may wait for a round that runs; the next one begins
-    /// after the copies that were asked for by then.
-    pub fn snapshot<R: Wait>(&self, rt: &R, alloc: Global) -> Result<Store, NoMemory>
-        ensures { IfOk result (Led self.now.opening) }
+    /// Has it failed to keep a round? It waits for none.
+    pub fn has_failed<R: Wait>(&self, rt: &R) -> bool {
+        self.board.lock(rt).has_failed()
+    }
+
+    /// A copy of the store as it stands between two rounds, and is kept. It may wait for a round that runs; the next
+    /// one begins after the copies that were asked for by then.
+    pub fn snapshot<R: Wait>(&self, rt: &R, alloc: Global) -> Result<Store, DeskFault>
+        ensures led { IfOk result (Led self.now.opening) }
+        ensures kept { IfOk result (IsKept K.stands_for) }
     {
         self.board.lock(rt).want_copy();
         for _ in rt.forever() {
@@ -209,11 +217,10 @@ impl<B: Opening> Desk<B> {
 }
 
 /// What the first of the lines was answered, if it is settled.
-fn settled_first(lines: &mut Option<Pipeline>) -> Option<Result<Receipt, NoMemory>>
-    ensures first { (opening : StoreState) → (kept : Bool) → IfSome lines.old (Holds opening kept)
-        → IfSome result (λ done. IfOk done (IsDeskReceipt opening kept)) }
-    ensures rest { (opening : StoreState) → (kept : Bool) → IfSome lines.old (Holds opening kept)
-        → IfSome lines.new (Holds opening kept) }
+fn settled_first<B: Opening, K: Keeper>(
+    lines: &mut Option<Pipeline<B, K>>,
+) -> Option<Result<Receipt, NoReceipt>>
+    ensures { IfSome result (λ done. IfOk done (IsDeskReceipt K.stands_for B.store B.kept)) }
 {
     match lines {
         Some(lines) => lines.take_first(),
@@ -222,16 +229,14 @@ fn settled_first(lines: &mut Option<Pipeline>) -> Option<Result<Receipt, NoMemor
 }
 
 /// The lines that are left, or else a copy of this one.
-fn lines_to_put(
+fn lines_to_put<B: Opening, K: Keeper>(
     alloc: Global,
-    lines: &mut Option<Pipeline>,
+    lines: &mut Option<Pipeline<B, K>>,
     line: &[u8],
     reads: WhoReads,
-) -> Result<Pipeline, NoMemory>
+) -> Result<Pipeline<B, K>, NoMemory>
     requires { length line.now ≤ LINE_LIMIT }
-    ensures put { (opening : StoreState) → (kept : Bool) → IfSome lines.old (Holds opening kept)
-        → IfOk result (Holds opening kept) }
-    ensures none { lines.new ≡ None }
+    ensures { lines.new ≡ None }
 {
     match lines.take() {
         Some(left) if !left.is_empty() => Ok(left),

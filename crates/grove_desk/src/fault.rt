@@ -16,6 +16,43 @@ pub enum DeskFault {
     /// A growth was refused.
     #[error("memory")]
     Memory,
+    /// What the last round left couldn't be kept, and nothing is answered any more.
+    #[error("unkept")]
+    Unkept,
+}
+
+/// Why the lines of a round have no receipts.
+#[derive(Clone, Copy, Debug, PartialEq, Eq)]
+pub(crate) enum NoReceipt {
+    /// A growth was refused, and nothing has changed.
+    Memory,
+    /// What a round left couldn't be kept, and nothing is answered any more.
+    Unkept,
+}
+
+impl From<NoMemory> for NoReceipt {
+    ghost use Rattle.std.specs.Prelude.{◌≡◌};
+    ghost use Rattle.grove_desk.specs.declared.fault.NoReceipt.TheVariants.{Memory};
+
+    ghost from_gives = { λ _ why. why ≡ Memory };
+
+    fn from(_error: NoMemory) -> NoReceipt {
+        NoReceipt::Memory
+    }
+}
+
+impl From<NoReceipt> for DeskFault {
+    ghost use Rattle.std.specs.Prelude.{◌≡◌};
+    ghost use Rattle.grove_desk.specs.Lines.{fault_of};
+
+    ghost from_gives = { λ why fault. fault ≡ fault_of why };
+
+    fn from(why: NoReceipt) -> DeskFault {
+        match why {
+            NoReceipt::Memory => DeskFault::Memory,
+            NoReceipt::Unkept => DeskFault::Unkept,
+        }
+    }
 }
 
 impl From<AllocError> for DeskFault {
@@ -47,5 +84,6 @@ pub(crate) fn answer_fault(fault: DeskFault) -> AnswerFault
     match fault {
         DeskFault::Foreign => AnswerFault::Foreign,
         DeskFault::Memory => AnswerFault::Memory,
+        DeskFault::Unkept => AnswerFault::Unkept,
     }
 }

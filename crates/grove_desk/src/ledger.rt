@@ -1,63 +1,98 @@
-ghost use Rattle.std.specs.Prelude.{◌≡◌, true, Some, ◌<◌, ◌≤◌, ◌↔◌, length, map, All, IfOk, OnErr, IsSome};
+ghost use Rattle.std.specs.Prelude.{◌≡◌, true, false, Err, ◌<◌, ◌≤◌, ◌↔◌, ◌⊎◌, length, map, All, IfOk, OnOk, OnErr};
+ghost use Rattle.std.specs.Prelude.{IsSome};
 ghost use Rattle.std.specs.Option.{option_map};
 ghost use Rattle.std.specs.Vec.{vec_capacity};
-ghost use Rattle.grove_desk.specs.Histories.{Led, IsDeskReceipt};
-ghost use Rattle.grove_desk.specs.Ledgers.{noted_in, IsJournalOf, AreAnswered};
+ghost use Rattle.grove_desk.specs.Receipts.{AreNumberedFrom};
+ghost use Rattle.grove_desk.specs.Histories.{Led, IsKept, IsDeskReceipt};
+ghost use Rattle.grove_desk.specs.Ledgers.{noted_in, next_number, IsJournalOf, AreAnswered};
 
 use crate::answering::answer_taken;
 use crate::asked::Asked;
+use crate::fault::NoReceipt;
 use crate::journal::Journal;
-use crate::{Opening, Receipt};
+use crate::{DeskFault, Opening, Receipt};
 use grove_build::PlanCounts;
-use grove_store::Store;
+use grove_store::{Keeper, Store, Unkept};
 use grove_tree::{Gate, NoMemory};
 use std::alloc::Global;
 use std::marker::{Model, PhantomData};
 use std::sync::Wait;
 use std::thread::Threads;
 
-/// The store of a desk and, where one is kept, the journal of all that it answered. They change together.
+/// The store of a desk, what keeps it and, where one is kept, the journal of all that it answered. They change
+/// together, until a round can't be kept: then nothing is answered any more, and nothing told of the store.
 #[derive(Drop)]
-pub(crate) struct Ledger<B: Opening> {
+pub(crate) struct Ledger<B: Opening, K: Keeper> {
     store: Store,
+    keeper: K,
     journal: Option<Journal>,
+    failed: bool,
     of: PhantomData<B>,
 }
 
-impl<B: Opening> Model for Ledger<B> {
+impl<B: Opening, K: Keeper> Model for Ledger<B, K> {
     ghost use Rattle.grove_desk.specs.Ledgers.{LedgerState, IsLedger};
 
-    ghost Value = { LedgerState };
+    ghost Value = { LedgerState K };
 
-    ghost view = { λ ledger. record { store = ledger.store; journal = ledger.journal } };
+    ghost view = { λ ledger. record {
+      store = ledger.store;
+      keeper = ledger.keeper;
+      journal = ledger.journal;
+      failed = ledger.failed;
+    } };
 
-    ghost invariant = { λ ledger. IsLedger B.store B.kept ledger.store ledger.journal };
+    ghost invariant = { λ ledger. IsLedger K.stands_for B.store B.kept record {
+      store = ledger.store;
+      keeper = ledger.keeper;
+      journal = ledger.journal;
+      failed = ledger.failed;
+    } };
 }
 
-impl<B: Opening> Ledger<B> {
+/// What a ledger was.
+pub(crate) struct LedgerParts<K> {
+    pub store: Store,
+    pub keeper: K,
+    pub journal: Option<Journal>,
+    pub failed: bool,
+}
+
+impl<B: Opening, K: Keeper> Ledger<B, K> {
     /// A ledger that has answered nothing.
-    pub(crate) fn new(alloc: Global, store: Store, kept: bool) -> Self
+    pub(crate) fn new(alloc: Global, store: Store, keeper: K, kept: bool) -> Self
         requires store { store ≡ B.store }
         requires kept { kept ≡ B.kept }
+        requires stands { K.stands_for keeper store }
     {
         Ledger {
             store,
+            keeper,
             journal: kept.then(|| Journal::new(alloc)),
+            failed: false,
             of: PhantomData,
         }
     }
 
-    pub(crate) fn into_parts(self) -> (Store, Option<Journal>)
-        ensures led { Led B.store result.0 }
-        ensures kept { IsJournalOf B.store result.1 result.0 }
-        ensures journal { IsSome result.1 ↔ (B.kept ≡ true) }
+    pub(crate) fn into_parts(self) -> LedgerParts<K>
+        ensures led { Led B.store result.store }
+        ensures kept { IsJournalOf B.store result.journal result.store }
+        ensures journal { IsSome result.journal ↔ (B.kept ≡ true) }
+        ensures stands { result.failed ≡ false → K.stands_for result.keeper result.store }
     {
         let Ledger {
             store,
+            keeper,
             journal,
+            failed,
             of: _,
         } = self;
-        (store, journal)
+        LedgerParts {
+            store,
+            keeper,
+            journal,
+            failed,
+        }
     }
 
     /// How many rounds the store has run.
@@ -70,36 +105,88 @@ impl<B: Opening> Ledger<B> {
         self.store.plan_counts()
     }
 
-    /// A copy of the store.
-    pub(crate) fn store_copy(&self, alloc: Global) -> Result<Store, NoMemory>
-        ensures { IfOk result (Led B.store) }
+    /// Has it failed to keep a round?
+    pub(crate) fn has_failed(&self) -> bool
+        ensures { result ≡ self.now.failed }
     {
-        self.store.copy(alloc)
+        self.failed
     }
 
-    /// Answers the first of the lines in one round, and notes it where a journal is kept. Each has a receipt, which
-    /// takes the line; the others stay. Where memory is refused, store and journal are as they were.
+    /// A copy of the store, as it is kept.
+    pub(crate) fn store_copy(&self, alloc: Global) -> Result<Store, DeskFault>
+        ensures led { IfOk result (Led B.store) }
+        ensures kept { IfOk result (IsKept K.stands_for) }
+    {
+        if self.failed {
+            return Err(DeskFault::Unkept);
+        }
+        Ok(self.store.copy(alloc)?)
+    }
+
+    /// Answers the first of the lines in one round, notes it where a journal is kept, and keeps what it left. Each has
+    /// a receipt, which takes the line; the others stay. Where memory is refused, nothing has changed. Where the round
+    /// can't be kept, or an earlier one couldn't, there are no receipts.
     pub(crate) fn answer<R: Threads + Wait + Sync, G: Gate + Sync>(
         &mut self,
         rt: &R,
         alloc: Global,
         taken: &mut Vec<Asked>,
         gate: &G,
-    ) -> Result<Vec<Receipt>, NoMemory>
+    ) -> Result<Vec<Receipt>, NoReceipt>
         requires { (0 < length taken.old.items) × (length taken.old.items ≤ 16) }
         ensures answered { IfOk result
             (λ receipts. AreAnswered self.old.store self.new.store taken.old.items taken.new.items receipts.items) }
         ensures journal { IfOk result
             (λ receipts. self.new.journal
             ≡ option_map (noted_in (record { before = self.old.store; receipts = receipts.items })) self.old.journal) }
-        ensures receipts { IfOk result (λ receipts. All (IsDeskReceipt B.store B.kept) receipts.items) }
+        ensures receipts { IfOk result (λ receipts. All (IsDeskReceipt K.stands_for B.store B.kept) receipts.items) }
         ensures tickets { map (λ asked. asked.ticket) taken.new.items ≡ map (λ asked. asked.ticket) taken.old.items }
         ensures room { vec_capacity taken.new ≡ vec_capacity taken.old }
-        ensures err { OnErr result (self.new ≡ self.old) }
+        ensures kept { OnOk result (K.stands_for self.new.keeper self.new.store) }
+        ensures any_moment { self.old.failed ≡ false → (result ≡ Err NoReceipt.Memory → ⊥)
+            → K.leaves_only self.old.keeper self.new.keeper
+            (λ left. (left ≡ self.old.store) ⊎ (left ≡ self.new.store)) }
+        ensures memory { result ≡ Err NoReceipt.Memory → self.new ≡ self.old }
+        ensures failed { result ≡ Err NoReceipt.Unkept ↔ (self.new.failed ≡ true) }
+        ensures refused { self.old.failed ≡ true → self.new ≡ self.old }
     {
-        match &mut self.journal {
-            Some(journal) => journal.answer(rt, alloc, &mut self.store, taken, gate),
-            None => answer_taken(rt, alloc, &mut self.store, None, taken, gate),
+        if self.failed {
+            return Err(NoReceipt::Unkept);
         }
+        let receipts = answer_noted(rt, alloc, &mut self.store, &mut self.journal, taken, gate)?;
+        match self.keeper.keep(alloc, &self.store) {
+            Ok(()) => Ok(receipts),
+            Err(Unkept) => {
+                self.failed = true;
+                Err(NoReceipt::Unkept)
+            }
+        }
+    }
+}
+
+/// Answers the first of the lines in one round of the store, and notes it where a journal is kept. Where memory is
+/// refused, both are as they were.
+fn answer_noted<R: Threads + Wait + Sync, G: Gate + Sync>(
+    rt: &R,
+    alloc: Global,
+    store: &mut Store,
+    journal: &mut Option<Journal>,
+    taken: &mut Vec<Asked>,
+    gate: &G,
+) -> Result<Vec<Receipt>, NoMemory>
+    requires { (0 < length taken.old.items) × (length taken.old.items ≤ 16) }
+    ensures answered { IfOk result
+        (λ receipts. AreAnswered store.old store.new taken.old.items taken.new.items receipts.items) }
+    ensures numbered { IfOk result (λ receipts. AreNumberedFrom (next_number journal.old) receipts.items) }
+    ensures journal { IfOk result
+        (λ receipts. journal.new
+        ≡ option_map (noted_in (record { before = store.old; receipts = receipts.items })) journal.old) }
+    ensures tickets { map (λ asked. asked.ticket) taken.new.items ≡ map (λ asked. asked.ticket) taken.old.items }
+    ensures room { vec_capacity taken.new ≡ vec_capacity taken.old }
+    ensures err { OnErr result ((journal.new ≡ journal.old) × (store.new ≡ store.old)) }
+{
+    match journal {
+        Some(journal) => journal.answer(rt, alloc, store, taken, gate),
+        None => answer_taken(rt, alloc, store, None, taken, gate),
     }
 }

@@ -18,6 +18,7 @@ mod awaited;
 mod bells;
 mod board;
 mod desk;
+mod desk_receipt;
 mod fault;
 mod journal;
 mod ledger;

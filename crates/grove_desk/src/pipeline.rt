@@ -1,11 +1,11 @@
-ghost use Rattle.std.specs.Prelude.{◌<◌, ◌≤◌, ◌↔◌, length, Bool, All, IsTrue, IfOk, IfSome};
-ghost use Rattle.grove_store.specs.StoreStates.{StoreState};
+ghost use Rattle.std.specs.Prelude.{◌<◌, ◌≤◌, ◌↔◌, length, IsTrue, IfOk, IfSome};
 ghost use Rattle.grove_session.specs.declared.answers.TheConstants.{LINE_LIMIT};
 ghost use Rattle.grove_desk.specs.Histories.{IsDeskReceipt};
-ghost use Rattle.grove_desk.specs.Boards.{KeepsState, Holds};
 
-use crate::Receipt;
+use crate::fault::NoReceipt;
 use crate::state::State;
+use crate::{Opening, Receipt};
+use grove_store::Keeper;
 use grove_tree::NoMemory;
 use grove_wire::Line;
 use memchr::memchr;
@@ -31,21 +31,20 @@ pub(crate) enum WhoReads {
 }
 
 /// Lines of a visitor that are put together, in order. Each is answered after those before it, and none after one that
-/// memory was refused for.
+/// has no receipt.
 #[derive(Drop)]
-pub(crate) struct Pipeline {
-    lines: Vec<State>,
+pub(crate) struct Pipeline<B: Opening, K: Keeper> {
+    lines: Vec<State<B, K>>,
     /// What so many of the first ones were answered is taken.
     taken: usize,
     /// So many of the first ones are settled.
     settled: usize,
 }
 
-impl Pipeline {
+impl<B: Opening, K: Keeper> Pipeline<B, K> {
     /// A copy of one line.
-    pub(crate) fn of_line(alloc: Global, line: &[u8], reads: WhoReads) -> Result<Pipeline, NoMemory>
+    pub(crate) fn of_line(alloc: Global, line: &[u8], reads: WhoReads) -> Result<Self, NoMemory>
         requires { length line.now ≤ LINE_LIMIT }
-        ensures { (opening : StoreState) → (kept : Bool) → IfOk result (Holds opening kept) }
     {
         let mut lines = Vec::with_capacity(alloc, 1)?;
         lines.push(State::Waiting(read_line(alloc, line, reads)?))?;
@@ -58,13 +57,7 @@ impl Pipeline {
 
     /// Copies of the whole lines at the front of the bytes: as many as are put together, up to the first that is too
     /// long for that.
-    pub(crate) fn of_bytes(
-        alloc: Global,
-        bytes: &[u8],
-        reads: WhoReads,
-    ) -> Result<Pipeline, NoMemory>
-        ensures { (opening : StoreState) → (kept : Bool) → IfOk result (Holds opening kept) }
-    {
+    pub(crate) fn of_bytes(alloc: Global, bytes: &[u8], reads: WhoReads) -> Result<Self, NoMemory> {
         let mut lines = Vec::new(alloc);
         let mut room = MOST_BYTES;
         let mut rest = bytes;
@@ -118,9 +111,7 @@ impl Pipeline {
     }
 
     /// The first line that isn't settled, where it waits. It leaves then.
-    pub(crate) fn start(&mut self) -> Option<Line>
-        ensures { (opening : StoreState) → (kept : Bool) → Holds opening kept self.old → Holds opening kept self.new }
-    {
+    pub(crate) fn start(&mut self) -> Option<Line> {
         if !self.is_waiting() {
             return None;
         }
@@ -130,11 +121,8 @@ impl Pipeline {
         }
     }
 
-    /// Where the line that left has got to. No line stays behind one that memory was refused for.
-    pub(crate) fn settle(&mut self, state: State)
-        ensures { (opening : StoreState) → (kept : Bool) → KeepsState opening kept state
-            → Holds opening kept self.old → Holds opening kept self.new }
-    {
+    /// Where the line that left has got to. No line stays behind one that has no receipt.
+    pub(crate) fn settle(&mut self, state: State<B, K>) {
         if self.is_settled() {
             return;
         }
@@ -150,11 +138,8 @@ impl Pipeline {
     }
 
     /// Takes what the first line was answered whose answer isn't taken yet, where it is settled.
-    pub(crate) fn take_first(&mut self) -> Option<Result<Receipt, NoMemory>>
-        ensures first { (opening : StoreState) → (kept : Bool) → Holds opening kept self.old
-            → IfSome result (λ done. IfOk done (IsDeskReceipt opening kept)) }
-        ensures rest { (opening : StoreState) → (kept : Bool) → Holds opening kept self.old
-            → Holds opening kept self.new }
+    pub(crate) fn take_first(&mut self) -> Option<Result<Receipt, NoReceipt>>
+        ensures { IfSome result (λ done. IfOk done (IsDeskReceipt K.stands_for B.store B.kept)) }
     {
         if !self.has_settled() || self.is_empty() {
             return None;
@@ -162,7 +147,8 @@ impl Pipeline {
         let first = mem::replace(&mut self.lines[self.taken], State::Running);
         self.taken += 1;
         match first {
-            State::Done(done) => Some(done),
+            State::Done(Ok(receipt)) => Some(Ok(receipt.into_receipt())),
+            State::Done(Err(why)) => Some(Err(why)),
             State::Waiting(_) | State::Running => None,
         }
     }

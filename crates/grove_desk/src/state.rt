@@ -1,24 +1,26 @@
-use crate::Receipt;
-use grove_tree::NoMemory;
+use crate::Opening;
+use crate::desk_receipt::DeskReceipt;
+use crate::fault::NoReceipt;
+use grove_store::Keeper;
 use grove_wire::Line;
 
 /// Where a line that was put has got to.
 #[derive(Drop)]
-pub(crate) enum State {
+pub(crate) enum State<B: Opening, K: Keeper> {
     Waiting(Line),
     /// The line left with the store.
     Running,
     /// What the caller of the line is to take.
-    Done(Result<Receipt, NoMemory>),
+    Done(Result<DeskReceipt<B, K>, NoReceipt>),
 }
 
-impl State {
+impl<B: Opening, K: Keeper> State<B, K> {
     pub(crate) fn is_done(&self) -> bool {
         matches!(self, State::Done(_))
     }
 
-    /// Was memory refused for the line?
+    /// Has the line no receipt, for good?
     pub(crate) fn is_refused(&self) -> bool {
-        matches!(self, State::Done(Err(NoMemory)))
+        matches!(self, State::Done(Err(_)))
     }
 }

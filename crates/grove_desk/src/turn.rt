@@ -1,10 +1,8 @@
-use crate::pipeline::Pipeline;
-
 /// What a caller with lines on the board does next.
 #[derive(Drop)]
-pub(crate) enum Turn<L> {
+pub(crate) enum Turn<P, L> {
     /// It takes these lines off the board, and goes.
-    Leave(Pipeline),
+    Leave(P),
     /// It leads a round, with this ledger.
     Lead(L),
     /// It waits.

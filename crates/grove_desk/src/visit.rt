@@ -10,6 +10,7 @@ use crate::pipeline::Pipeline;
 use crate::turn::Leading;
 use crate::{Desk, Opening, Receipt, RoundWatch, Told, Unwatched};
 use grove_session::{AnswerFault, Answers, SessionFault, Sink, Source, session};
+use grove_store::{InMemory, Keeper};
 use grove_tree::OpenGate;
 use std::alloc::AllocGlobal;
 use std::marker::Model;
@@ -18,22 +19,20 @@ use std::thread::Threads;
 
 /// A visitor of a desk, whose lines are answered there one after the other.
 #[derive(Drop)]
-pub struct Visit<'a, B: Opening, W = Unwatched> {
-    desk: &'a Desk<B>,
+pub struct Visit<'a, B: Opening, K: Keeper = InMemory, W = Unwatched> {
+    desk: &'a Desk<B, K>,
     /// What learns of the rounds that the visitor runs.
     watch: &'a W,
     /// What the last line was answered.
     seen: Option<Receipt>,
     told: Told,
     /// The lines that come next, with what the first of them were answered, as far as they were put together.
-    lines: Option<Pipeline>,
+    lines: Option<Pipeline<B, K>>,
     leading: Leading,
 }
 
-impl<'a, B: Opening, W> Model for Visit<'a, B, W> {
-    ghost use Rattle.std.specs.Prelude.{IfSome};
+impl<'a, B: Opening, K: Keeper, W> Model for Visit<'a, B, K, W> {
     ghost use Rattle.grove_tree.specs.Weights.{unweighed};
-    ghost use Rattle.grove_desk.specs.Boards.{Holds};
     ghost use Rattle.grove_desk.specs.Desks.{VisitState, rounds_seen};
 
     ghost Value = { VisitState };
@@ -43,22 +42,20 @@ impl<'a, B: Opening, W> Model for Visit<'a, B, W> {
       rounds = rounds_seen visit.seen;
       told = visit.told;
     } };
-
-    ghost invariant = { λ visit. IfSome visit.lines (Holds B.store B.kept) };
 }
 
-impl<'a, B: Opening> Visit<'a, B> {
+impl<'a, B: Opening, K: Keeper> Visit<'a, B, K> {
     /// A visitor who has seen nothing yet.
-    pub fn new(desk: &'a Desk<B>) -> Self
+    pub fn new(desk: &'a Desk<B, K>) -> Self
         ensures { result ≡ record { names = unweighed desk.entry.now.opening.rows; rounds = 0; told = Told.Nothing } }
     {
         Visit::watched(desk, &Unwatched)
     }
 }
 
-impl<'a, B: Opening, W> Visit<'a, B, W> {
+impl<'a, B: Opening, K: Keeper, W> Visit<'a, B, K, W> {
     /// A visitor who has seen nothing yet, and of whose rounds is learned.
-    pub fn watched(desk: &'a Desk<B>, watch: &'a W) -> Self
+    pub fn watched(desk: &'a Desk<B, K>, watch: &'a W) -> Self
         ensures { result ≡ record { names = unweighed desk.entry.now.opening.rows; rounds = 0; told = Told.Nothing } }
     {
         Visit {
@@ -90,8 +87,13 @@ impl<'a, B: Opening, W> Visit<'a, B, W> {
     }
 }
 
-impl<'a, B: Opening, R: Threads + Wait + Sync + AllocGlobal, W: RoundWatch<R>> Answers<R>
-    for Visit<'a, B, W> {
+impl<
+    'a,
+    B: Opening,
+    K: Keeper + Drop,
+    R: Threads + Wait + Sync + AllocGlobal,
+    W: RoundWatch<R>,
+> Answers<R> for Visit<'a, B, K, W> {
     ghost use Rattle.std.specs.Prelude.{true};
     ghost use Rattle.std.specs.Thread.{IsSync};
     ghost use Rattle.grove_desk.specs.Desks.{IsShared};
@@ -164,7 +166,7 @@ impl<'a, B: Opening, R: Threads + Wait + Sync + AllocGlobal, W: RoundWatch<R>> A
 }
 
 /// Are lines left that were to be put together?
-fn has_lines(lines: &Option<Pipeline>) -> bool {
+fn has_lines<B: Opening, K: Keeper>(lines: &Option<Pipeline<B, K>>) -> bool {
     match lines {
         Some(lines) => !lines.is_empty(),
         None => false,
@@ -174,13 +176,14 @@ fn has_lines(lines: &Option<Pipeline>) -> bool {
 /// Answers the lines of the source at the desk, one after the other, each with its reply and a line feed, and gives
 /// their number. Between two of them others may have changed the store. Replies to lines that came together go out
 /// together, so after a write that fails more lines may have had their effects than have their replies. After `Foreign`
-/// the replies of the lines before went out whole, and the line may have had its effect.
-pub fn desk_session<B: Opening, R: Threads + Wait + Sync + AllocGlobal, I: Source, O: Sink>(
-    rt: &R,
-    desk: &Desk<B>,
-    source: &mut I,
-    sink: &mut O,
-) -> Result<u64, SessionFault>
+/// and `Unkept` the replies of the lines before went out whole, and the line may have had its effect.
+pub fn desk_session<
+    B: Opening,
+    K: Keeper + Drop,
+    R: Threads + Wait + Sync + AllocGlobal,
+    I: Source,
+    O: Sink,
+>(rt: &R, desk: &Desk<B, K>, source: &mut I, sink: &mut O) -> Result<u64, SessionFault>
     requires sound_source { I.has_failed source.old ≡ false }
     requires sound_sink { O.has_failed sink.old ≡ false }
     requires reads { I.read_count source.old < 2 ^ 63 }

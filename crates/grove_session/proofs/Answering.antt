@@ -8,7 +8,7 @@ use Rattle.std.proofs.lemmas.Option.{slice_get_within}
 use Rattle.grove_base.proofs.Lists.{get_append_left}
 use Rattle.grove_session.specs.declared.intake.Intake.{Intake}
 use Rattle.grove_session.specs.declared.session_fault.SessionFault.{SessionFault}
-use Rattle.grove_session.specs.declared.session_fault.SessionFault.TheVariants.{Read, Write, Memory, Turns, Foreign}
+use Rattle.grove_session.specs.declared.session_fault.SessionFault.TheVariants.{Read, Write, Memory, Turns, Foreign, Unkept}
 use Rattle.grove_session.specs.Sessions.{Lawful, IsReplied, IsAnswered, StopsBefore, StopsWithin}
 use Rattle.grove_session.specs.Intakes.{held_line, IsHeldReplied, SendsWhole, SendsInPart, Sends, AnswersNext, EndsAmong}
 
@@ -105,6 +105,9 @@ module _ {S : Type 0} (lawful : Lawful S) where
   ends_among shared lines others old new Foreign text (line, done, next, answered) =
       let here = slice_get_within lines done line next in
       (line, done, get_append_left lines others done here ∙ next, take_among lines others done old new text (omega arith) answered)
+  ends_among shared lines others old new Unkept text (line, done, next, answered) =
+      let here = slice_get_within lines done line next in
+      (line, done, get_append_left lines others done here ∙ next, take_among lines others done old new text (omega arith) answered)
   ends_among shared lines others old new Read text h = absurd h
   ends_among shared lines others old new Turns text h = absurd h
 
@@ -118,5 +121,6 @@ answers_next lawful old new before after reply text (Err (Write n)) more replied
     record { reply = reply; replied = replied; sends = subst (λ (t : List ℕ). SendsInPart t more) is sends }
 answers_next lawful old new before after reply text (Err Memory) more replied is sends = absurd sends
 answers_next lawful old new before after reply text (Err Foreign) more replied is sends = absurd sends
+answers_next lawful old new before after reply text (Err Unkept) more replied is sends = absurd sends
 answers_next lawful old new before after reply text (Err Read) more replied is sends = absurd sends
 answers_next lawful old new before after reply text (Err Turns) more replied is sends = absurd sends

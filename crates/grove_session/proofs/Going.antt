@@ -10,7 +10,7 @@ use Rattle.std.proofs.lemmas.Bool.{cond-true, ltb-true, lt-ltb}
 use Rattle.std.proofs.Math.Seq.{take-length}
 use Rattle.grove_session.specs.declared.intake.Intake.{Intake}
 use Rattle.grove_session.specs.declared.session_fault.SessionFault.{SessionFault}
-use Rattle.grove_session.specs.declared.session_fault.SessionFault.TheVariants.{Read, Write, Memory, Turns, Foreign}
+use Rattle.grove_session.specs.declared.session_fault.SessionFault.TheVariants.{Read, Write, Memory, Turns, Foreign, Unkept}
 use Rattle.grove_session.specs.Sessions.{Lawful, UnlessLong, whole_lines, rest_of, last_line, lines_of, lines_from, IsReplied, IsAnswered, StopsBefore, StopsWithin, SessionEnds}
 use Rattle.grove_session.specs.Cuts.{IsFeedless}
 use Rattle.grove_session.specs.Intakes.{clip, with_bytes, held_line, IsHeldReplied, RepliesWhole, FailsNext, IsApart}
@@ -47,6 +47,7 @@ apart_tells Read after text apart written = absurd apart
 apart_tells Memory after text apart written = _
 apart_tells Turns after text apart written = absurd apart
 apart_tells Foreign after text apart written = _
+apart_tells Unkept after text apart written = _
 
 last_line-some : (line : List ℕ) → (line ≡ [] → ⊥) → last_line line ≡ line ∷ []
 last_line-some [] some = absurd (some refl)
@@ -172,6 +173,12 @@ module _ {S : Type 0} (shared : Bool) (lawful : Lawful S) where
     get_here (whole_lines input) others (rest_of input),
     take_before lawful (whole_lines input) (rest_of input ∷ others) first new (text ++ more) (still first old new input text more before h none same),
   )
+  among first old new input text more others before Unkept h (none, same) = (
+    rest_of input,
+    length (whole_lines input),
+    get_here (whole_lines input) others (rest_of input),
+    take_before lawful (whole_lines input) (rest_of input ∷ others) first new (text ++ more) (still first old new input text more before h none same),
+  )
   among first old new input text more others before Read h none = absurd none
   among first old new input text more others before Turns h none = absurd none
 
@@ -202,6 +209,8 @@ module _ {S : Type 0} (shared : Bool) (lawful : Lawful S) where
   ends_so first new left input text Memory stops counted = stops
   ends_so first new left input text Foreign (line, done, next, answered) counted =
       (whole_lines input, line, done, inl refl, next, answered)
+  ends_so first new left input text Unkept (line, done, next, answered) counted =
+      (whole_lines input, line, done, inl refl, next, answered)
   ends_so first new left input text Read h counted = absurd h
   ends_so first new left input text Turns h counted = absurd h
 
@@ -224,6 +233,15 @@ module _ {S : Type 0} (shared : Bool) (lawful : Lawful S) where
       (length (whole_lines input), omega arith, subst (λ (ls : List (List ℕ)). IsAnswered lawful first ls (text ++ more) new) (sym (take-length (whole_lines input))) answered)
   ends_last first old new left input text more before Foreign at_end all under h counted =
       let (line, done, next, answered) = among first old new input text more [] before Foreign under h in (
+        lines_of input,
+        line,
+        done,
+        inr (at_end, refl),
+        ap (λ (ls : List (List ℕ)). slice_get ls done) all ∙ next,
+        subst (λ (ls : List (List ℕ)). IsAnswered lawful first (take done ls) (text ++ more) new) (sym all) answered,
+      )
+  ends_last first old new left input text more before Unkept at_end all under h counted =
+      let (line, done, next, answered) = among first old new input text more [] before Unkept under h in (
         lines_of input,
         line,
         done,

@@ -5,7 +5,7 @@ use Rattle.std.specs.Io.KnownBytes.{Appends, Consumes, IsAtEnd}
 use Rattle.std.proofs.KnownBytes.{Appends-trans, Consumes-trans}
 use Rattle.grove_session.specs.declared.intake.Intake.{Intake}
 use Rattle.grove_session.specs.declared.session_fault.SessionFault.{SessionFault}
-use Rattle.grove_session.specs.declared.session_fault.SessionFault.TheVariants.{Read, Write, Memory, Turns, Foreign}
+use Rattle.grove_session.specs.declared.session_fault.SessionFault.TheVariants.{Read, Write, Memory, Turns, Foreign, Unkept}
 use Rattle.grove_session.specs.Sessions.{Lawful, SessionEnds, is_read}
 use Rattle.grove_session.specs.Intakes.{IsApart, IsUnderWay, Breaks, Finishes}
 use Rattle.grove_session.proofs.Going.{ends_so, apart_tells}
@@ -17,6 +17,7 @@ apart_from_read (Ok done) intake h = refl
 apart_from_read (Err (Write n)) intake h = refl
 apart_from_read (Err Memory) intake h = refl
 apart_from_read (Err Foreign) intake h = refl
+apart_from_read (Err Unkept) intake h = refl
 apart_from_read (Err Read) intake h = absurd h
 apart_from_read (Err Turns) intake h = absurd h
 

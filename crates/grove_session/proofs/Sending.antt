@@ -10,7 +10,7 @@ use Rattle.std.proofs.lemmas.List.{length-take-le}
 use Rattle.std.proofs.Math.Seq.{take-append_seam}
 use Rattle.grove_session.specs.declared.intake.Intake.{Intake}
 use Rattle.grove_session.specs.declared.session_fault.SessionFault.{SessionFault}
-use Rattle.grove_session.specs.declared.session_fault.SessionFault.TheVariants.{Read, Write, Memory, Turns, Foreign}
+use Rattle.grove_session.specs.declared.session_fault.SessionFault.TheVariants.{Read, Write, Memory, Turns, Foreign, Unkept}
 use Rattle.grove_session.specs.Sessions.{Lawful, whole_lines, IsReplied, IsAnswered, StopsWithin, is_write}
 use Rattle.grove_session.specs.Intakes.{held_line, GoesOut, Sends, SendsInPart, IsUnderWay, EndsAmong, Continues}
 use Rattle.grove_session.specs.Intakes.{Breaks, TakesBytes}
@@ -71,6 +71,7 @@ sends_nothing before after text Read is some = absurd (false≢true is)
 sends_nothing before after text Memory is some = absurd (false≢true is)
 sends_nothing before after text Turns is some = absurd (false≢true is)
 sends_nothing before after text Foreign is some = absurd (false≢true is)
+sends_nothing before after text Unkept is some = absurd (false≢true is)
 
 -- the first bytes of a text
 pub part_of : (n : ℕ) (text : List ℕ) → n < length text → SendsInPart text (take n text)
@@ -210,6 +211,8 @@ module _ {S : Type 0} (shared : Bool) (lawful : Lawful S) where
       cut_among lines done old new text out rest answered is some alone
   ends_cut lines old new Foreign text out rest (line, done, next, answered) is some alone =
       cut_among lines done old new text out rest answered is some alone
+  ends_cut lines old new Unkept text out rest (line, done, next, answered) is some alone =
+      cut_among lines done old new text out rest answered is some alone
   ends_cut lines old new (Write n) text out rest within is some alone =
       cut_further lines old new text out rest within is alone
   ends_cut lines old new Read text out rest h is some alone = absurd h
@@ -253,6 +256,9 @@ module _ {S : Type 0} (shared : Bool) (lawful : Lawful S) where
       (no_rest more out rest is (none refl)) broken
   out_as old new before bytes more out rest Foreign broken is none alone =
       subst (λ (t : List ℕ). Breaks shared lawful old before bytes t Foreign new)
+      (no_rest more out rest is (none refl)) broken
+  out_as old new before bytes more out rest Unkept broken is none alone =
+      subst (λ (t : List ℕ). Breaks shared lawful old before bytes t Unkept new)
       (no_rest more out rest is (none refl)) broken
   out_as old new before bytes more out rest Read broken is none alone =
       subst (λ (t : List ℕ). Breaks shared lawful old before bytes t Read new) (no_rest more out rest is (none refl))
@@ -301,4 +307,6 @@ module _ {S : Type 0} (shared : Bool) (lawful : Lawful S) where
   takes_cut old new before between bytes more out rest taken Memory takes is (cut, some) alone = absurd (false≢true cut)
   takes_cut old new before between bytes more out rest taken Turns takes is (cut, some) alone = absurd (false≢true cut)
   takes_cut old new before between bytes more out rest taken Foreign takes is (cut, some) alone =
+      absurd (false≢true cut)
+  takes_cut old new before between bytes more out rest taken Unkept takes is (cut, some) alone =
       absurd (false≢true cut)

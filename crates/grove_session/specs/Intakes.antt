@@ -6,6 +6,7 @@ use Rattle.grove_session.specs.declared.open_line.OpenLine.{OpenLine}
 use Rattle.grove_session.specs.declared.intake.Intake.{Intake}
 use Rattle.grove_session.specs.declared.session_fault.SessionFault.{SessionFault}
 use Rattle.grove_session.specs.declared.session_fault.SessionFault.TheVariants.{Read, Write, Memory, Turns, Foreign}
+use Rattle.grove_session.specs.declared.session_fault.SessionFault.TheVariants.{Unkept}
 use Rattle.grove_session.specs.Sessions.{Lawful, whole_lines, rest_of, long_line_text, IsAnswered, StopsBefore}
 use Rattle.grove_session.specs.Sessions.{StopsWithin, SessionEnds}
 
@@ -33,12 +34,14 @@ IsApart (Ok _) after = Unit {0}
 IsApart (Err (Write n)) after = n ≡ after.written
 IsApart (Err Memory) after = Unit {0}
 IsApart (Err Foreign) after = Unit {0}
+IsApart (Err Unkept) after = Unit {0}
 IsApart (Err Read) after = ⊥
 IsApart (Err Turns) after = ⊥
 
--- and what is answered alone is never lost among others' lines
+-- and what is answered alone is neither lost among others' lines nor unkept
 abbrev pub IsOwn : {T : Type 0} → Bool → Result T SessionFault → Intake → Type 0
 IsOwn shared result after = IsApart result after × (result ≡ Err Foreign → shared ≡ true)
+    × (result ≡ Err Unkept → shared ≡ true)
 
 -- no reply is held, and unless answers are shared none ever is
 abbrev pub HoldsNone : Bool → Intake → Type 0
@@ -55,6 +58,7 @@ Tells Read text = Unit {0}
 Tells Memory text = Unit {0}
 Tells Turns text = Unit {0}
 Tells Foreign text = Unit {0}
+Tells Unkept text = Unit {0}
 
 -- what went out, and what is still held, is what was held and more; what went out is counted
 pub record GoesOut (old new : Option (List ℕ)) (held : List ℕ) (written : ℕ) (more still : List ℕ) (count : ℕ) : Type
@@ -87,6 +91,7 @@ Sends before text (Err Read) more after = ⊥
 Sends before text (Err Memory) more after = ⊥
 Sends before text (Err Turns) more after = ⊥
 Sends before text (Err Foreign) more after = ⊥
+Sends before text (Err Unkept) more after = ⊥
 
 -- the line that is held has this reply, and it goes out with a line feed
 pub record RepliesWhole {S : Type 0} (lawful : Lawful S) (old : S) (before : Intake) (more : List ℕ) (new : S)
@@ -106,6 +111,7 @@ abbrev pub FailsNext : {S : Type 0} → Lawful S → S → Intake → SessionFau
 FailsNext lawful old before (Write n) more new = RepliesInPart lawful old before more new
 FailsNext lawful old before Memory more new = (more ≡ []) × (new ≡ old)
 FailsNext lawful old before Foreign more new = (more ≡ []) × (new ≡ old)
+FailsNext lawful old before Unkept more new = (more ≡ []) × (new ≡ old)
 FailsNext lawful old before Read more new = ⊥
 FailsNext lawful old before Turns more new = ⊥
 
@@ -127,6 +133,8 @@ abbrev pub EndsAmong : {S : Type 0} → Bool → Lawful S → S → List (List �
 EndsAmong shared lawful first lines Memory text new = StopsBefore lawful first lines text new
 EndsAmong shared lawful first lines (Write n) text new = StopsWithin shared lawful first lines text new
 EndsAmong shared lawful first lines Foreign text new = (line : List ℕ) × (done : ℕ)
+    × (slice_get lines done ≡ Some line) × IsAnswered lawful first (take done lines) text new
+EndsAmong shared lawful first lines Unkept text new = (line : List ℕ) × (done : ℕ)
     × (slice_get lines done ≡ Some line) × IsAnswered lawful first (take done lines) text new
 EndsAmong shared lawful first lines Read text new = ⊥
 EndsAmong shared lawful first lines Turns text new = ⊥

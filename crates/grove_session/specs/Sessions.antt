@@ -6,6 +6,7 @@ use Rattle.grove_session.specs.declared.answers.AnswerFault.{AnswerFault}
 use Rattle.grove_session.specs.declared.answers.AnswerFault.TheVariants as answer
 use Rattle.grove_session.specs.declared.session_fault.SessionFault.{SessionFault}
 use Rattle.grove_session.specs.declared.session_fault.SessionFault.TheVariants.{Read, Write, Memory, Turns, Foreign}
+use Rattle.grove_session.specs.declared.session_fault.SessionFault.TheVariants.{Unkept}
 
 -- ---- lines
 
@@ -100,6 +101,8 @@ SessionEnds shared lawful old (Err (Write n)) left input out new = (n ≡ length
 SessionEnds shared lawful old (Err Memory) left input out new = StopsBefore lawful old (whole_lines input) out new
 SessionEnds shared lawful old (Err Foreign) left input out new = (lines : List (List ℕ)) × (line : List ℕ) × (done : ℕ)
     × MayAnswer left input lines × (slice_get lines done ≡ Some line) × IsAnswered lawful old (take done lines) out new
+SessionEnds shared lawful old (Err Unkept) left input out new = (lines : List (List ℕ)) × (line : List ℕ) × (done : ℕ)
+    × MayAnswer left input lines × (slice_get lines done ≡ Some line) × IsAnswered lawful old (take done lines) out new
 
 -- the source is blamed, and the sink
 abbrev pub is_read : {T : Type 0} → Result T SessionFault → Bool
@@ -114,3 +117,4 @@ is_write _ = false
 abbrev pub fault_of : AnswerFault → SessionFault
 fault_of answer.Memory = Memory
 fault_of answer.Foreign = Foreign
+fault_of answer.Unkept = Unkept

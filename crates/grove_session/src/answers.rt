@@ -15,6 +15,9 @@ pub enum AnswerFault {
     /// What was to be answered isn't what was put: of shared answers alone.
     #[error("foreign")]
     Foreign,
+    /// What it may have left isn't kept: of shared answers alone.
+    #[error("unkept")]
+    Unkept,
 }
 
 /// What answers the lines of a session, one after the other.
@@ -34,7 +37,8 @@ pub trait Answers<R> {
         requires short { length line.now ≤ LINE_LIMIT }
         ensures ok { IfOk result (λ reply. lawful self.old line.now reply.items self.new) }
         ensures err { OnErr result (self.new ≡ self.old) }
-        ensures foreign { result ≡ Err fault.Foreign → is_shared ≡ true };
+        ensures foreign { result ≡ Err fault.Foreign → is_shared ≡ true }
+        ensures unkept { result ≡ Err fault.Unkept → is_shared ≡ true };
 
     /// May replies be held back, to go out together once no whole line is left of what was read? So it is where nothing
     /// is owed to a cut write: of shared answers alone.

@@ -1,7 +1,7 @@
 ghost use Rattle.std.specs.Prelude.{◌≡◌, ℕ, ◌+◌, ◌*◌, ◌^◌, ◌<◌, ◌≤◌, ◌||◌, true, false, [], List, Some, Err, length};
 ghost use Rattle.std.specs.Prelude.{OnOk};
 ghost use Rattle.std.specs.Io.KnownBytes.{Appends};
-ghost use Rattle.grove_session.specs.declared.session_fault.SessionFault.TheVariants.{Foreign};
+ghost use Rattle.grove_session.specs.declared.session_fault.SessionFault.TheVariants.{Foreign, Unkept};
 ghost use Rattle.grove_session.specs.Sessions.{is_write};
 
 use crate::open_line::OpenLine;
@@ -93,6 +93,7 @@ impl Intake {
         ensures few { OnOk result (self.new.answered ≤ self.old.answered + length bytes.now) }
         ensures failed { O.has_failed sink.new ≡ (O.has_failed sink.old || is_write result) }
         ensures foreign { result ≡ Err Foreign → A.is_shared ≡ true }
+        ensures unkept { result ≡ Err Unkept → A.is_shared ≡ true }
         ensures apart { IsApart result self.new }
         ensures most_held { self.new.most_held ≡ self.old.most_held }
     {
@@ -132,6 +133,7 @@ impl Intake {
             × Finishes A.is_shared A.lawful answers.old self.old result more answers.new self.new }
         ensures failed { O.has_failed sink.new ≡ (O.has_failed sink.old || is_write result) }
         ensures foreign { result ≡ Err Foreign → A.is_shared ≡ true }
+        ensures unkept { result ≡ Err Unkept → A.is_shared ≡ true }
         ensures apart { IsApart result self.new }
     {
         if self.line.is_empty() {
@@ -156,6 +158,7 @@ impl Intake {
             × AnswersNext A.lawful answers.old self.old result more answers.new self.new }
         ensures failed { O.has_failed sink.new ≡ (O.has_failed sink.old || is_write result) }
         ensures foreign { result ≡ Err Foreign → A.is_shared ≡ true }
+        ensures unkept { result ≡ Err Unkept → A.is_shared ≡ true }
         ensures apart { IsApart result self.new }
         ensures most_held { self.new.most_held ≡ self.old.most_held }
     {

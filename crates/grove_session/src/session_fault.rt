@@ -20,6 +20,9 @@ pub enum SessionFault {
     /// What was to be answered isn't what was put: of shared sessions alone.
     #[error("foreign")]
     Foreign,
+    /// What a line may have left isn't kept: of shared sessions alone.
+    #[error("unkept")]
+    Unkept,
 }
 
 impl From<DeviceFault> for SessionFault {
@@ -54,6 +57,7 @@ impl From<AnswerFault> for SessionFault {
         match fault {
             AnswerFault::Memory => SessionFault::Memory,
             AnswerFault::Foreign => SessionFault::Foreign,
+            AnswerFault::Unkept => SessionFault::Unkept,
         }
     }
 }

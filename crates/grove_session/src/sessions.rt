@@ -1,6 +1,6 @@
 ghost use Rattle.std.specs.Prelude.{◌≡◌, ℕ, ◌+◌, ◌^◌, ◌<◌, ◌≤◌, true, false, List, Err};
 ghost use Rattle.std.specs.Io.KnownBytes.{Appends, Consumes};
-ghost use Rattle.grove_session.specs.declared.session_fault.SessionFault.TheVariants.{Turns, Foreign};
+ghost use Rattle.grove_session.specs.declared.session_fault.SessionFault.TheVariants.{Turns, Foreign, Unkept};
 ghost use Rattle.grove_session.specs.Sessions.{SessionEnds, is_read, is_write};
 
 use crate::intake::Intake;
@@ -32,6 +32,7 @@ pub fn session<R: AllocGlobal, A: Answers<R>, I: Source, O: Sink>(
     ensures turns { result ≡ Err Turns → I.read_count source.new ≡ I.read_count source.old + 2 ^ 32 }
     ensures few { I.read_count source.new ≤ I.read_count source.old + 2 ^ 32 }
     ensures foreign { result ≡ Err Foreign → A.is_shared ≡ true }
+    ensures unkept { result ≡ Err Unkept → A.is_shared ≡ true }
 {
     let ended = answer_lines(rt, answers, source, sink);
     answers.leave(rt);
@@ -56,6 +57,7 @@ fn answer_lines<R: AllocGlobal, A: Answers<R>, I: Source, O: Sink>(
     ensures turns { result ≡ Err Turns → I.read_count source.new ≡ I.read_count source.old + 2 ^ 32 }
     ensures few { I.read_count source.new ≤ I.read_count source.old + 2 ^ 32 }
     ensures foreign { result ≡ Err Foreign → A.is_shared ≡ true }
+    ensures unkept { result ≡ Err Unkept → A.is_shared ≡ true }
 {
     let most_held = if answers.may_hold() && sink.has_costly_writes() {
         MOST_HELD

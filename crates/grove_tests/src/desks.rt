@@ -3,7 +3,7 @@ ghost use Rattle.std.specs.Prelude.{◌≡◌, true};
 use crate::fixtures::{Host, two_leaves};
 use grove_access::Records;
 use grove_desk::{Closed, Desk, Opening, Receipt};
-use grove_store::Store;
+use grove_store::{InMemory, Store};
 use grove_tree::OpenGate;
 use std::marker::Brand;
 
@@ -32,7 +32,7 @@ pub fn close_after<B: Opening>(
     lines: &[usize],
 ) {
     let closed = desk.close(rt.alloc(), receipts).ok();
-    let Closed { store, journal } = closed.expect(rt, "a desk that closes");
+    let Closed { store, journal, .. } = closed.expect(rt, "a desk that closes");
     assert!(rt; store.rounds() == rounds && journal.len() == lines.len());
     assert!(rt;
         journal
@@ -58,7 +58,7 @@ fn two_rounds<B: Opening, R: Host>(rt: &R, store: Store)
     requires store { store ≡ B.store }
     requires kept { B.kept ≡ true }
 {
-    let desk = Desk::<B>::open(rt.alloc(), store, true);
+    let desk = Desk::<B>::open(rt.alloc(), store, InMemory, true);
     let first = add(rt, &desk, None);
     let second = add(rt, &desk, Some(&first));
     assert!(rt; first.number == 0 && first.reply.as_slice() == REPLIES[0]);
@@ -76,7 +76,7 @@ fn closing_is_refused<B: Opening, R: Host>(rt: &R, store: Store)
     requires store { store ≡ B.store }
     requires kept { B.kept ≡ true }
 {
-    let desk = Desk::<B>::open(rt.alloc(), store, true);
+    let desk = Desk::<B>::open(rt.alloc(), store, InMemory, true);
     let first = add(rt, &desk, None);
     let second = add(rt, &desk, Some(&first));
     let refused = desk.close(rt.alloc(), &[second, first]).err();

@@ -4,7 +4,7 @@ use crate::desks::{close_after, small_store};
 use crate::fixtures::Host;
 use crate::hold::{Hold, MOST_LOOKS, get_held};
 use grove_desk::{Desk, Opening};
-use grove_store::Store;
+use grove_store::{InMemory, Store};
 use grove_tree::OpenGate;
 use std::marker::Brand;
 use std::sync::Wait;
@@ -69,7 +69,7 @@ fn seventeen_ask<B: Opening + Send + Sync, R: Host>(rt: &R, store: Store)
     requires store { store ≡ B.store }
     requires kept { B.kept ≡ true }
 {
-    let desk = Desk::<B>::open(rt.alloc(), store, true);
+    let desk = Desk::<B>::open(rt.alloc(), store, InMemory, true);
     let hold = Hold::new();
     seventeen_beside(rt, &desk, &hold);
     assert!(rt; !hold.gave_up());

@@ -31,4 +31,6 @@ mod scripts;
 #[cfg(test)]
 mod sleepers;
 #[cfg(test)]
+mod unkept;
+#[cfg(test)]
 mod workers;

@@ -4,7 +4,7 @@ use crate::desks::small_store;
 use crate::fixtures::Host;
 use grove_desk::{Desk, Opening, Visit};
 use grove_session::Answers;
-use grove_store::Store;
+use grove_store::{InMemory, Store};
 use grove_tree::OpenGate;
 use std::marker::Brand;
 
@@ -52,7 +52,7 @@ fn lines_are_done<B: Opening, R: Host>(
     requires store { store ≡ B.store }
     requires kept { B.kept ≡ false }
 {
-    let desk = Desk::<B>::open(rt.alloc(), store, false);
+    let desk = Desk::<B>::open(rt.alloc(), store, InMemory, false);
     let mut visit = Visit::new(&desk);
     if together {
         visit = visit.together();

@@ -1,25 +1,31 @@
-ghost use Rattle.std.specs.Prelude.{◌≡◌, true, false, [], None, Some, IfOk, IfErr, IfSome, OnErr};
+ghost use Rattle.std.specs.Prelude.{◌≡◌, true, false, [], None, IfOk, IfErr, IfSome, IsSome, IsNone};
 ghost use Rattle.grove_store.specs.StoreStates.{StoreState};
 ghost use Rattle.grove_desk.specs.Histories.{IsHistory, Led};
-ghost use Rattle.grove_desk.specs.Ledgers.{IsJournal};
+ghost use Rattle.grove_desk.specs.Ledgers.{IsJournalOf};
 
 use crate::journal::{Journal, JournalEntry};
+use crate::ledger::LedgerParts;
 use crate::{Desk, Opening, Receipt};
-use grove_store::Store;
+use grove_store::{InMemory, Keeper, Store};
 use std::alloc::Global;
 
-/// What a desk has left: its store and, where one was kept, the journal of every round. Else the journal is empty.
+/// What a desk has left: its store, what kept it and, where one was kept, the journal of every round. Else the journal
+/// is empty.
 #[derive(Drop)]
-pub struct Closed {
+pub struct Closed<K = InMemory> {
     pub store: Store,
+    pub keeper: K,
     pub journal: Vec<JournalEntry>,
+    /// Had it failed to keep a round? Then what is kept may be another store.
+    pub failed: bool,
 }
 
-impl<B: Opening> Desk<B> {
+impl<B: Opening, K: Keeper + Drop> Desk<B, K> {
     /// Closes the desk. Where a journal was kept, it is refused, with the store, unless the receipts stand in the
     /// journal: their numbers rise, and each is the journal's of its number. `None` is answered where the store isn't
     /// there, which never comes: a call that takes it out puts it back. It takes no memory.
-    pub fn close(self, alloc: Global, receipts: &[Receipt]) -> Result<Closed, Option<Store>>
+    pub fn close(self, alloc: Global, receipts: &[Receipt]) -> Result<Closed<K>, Option<Store>>
+        ensures stands { IfOk result (λ closed. closed.failed ≡ false → K.stands_for closed.keeper closed.store) }
         ensures kept { IfOk result (λ closed. self.kept ≡ true
             → IsHistory self.opening receipts.now closed.journal.items closed.store) }
         ensures plain { IfOk result (λ closed. self.kept ≡ false → closed.journal.items ≡ []) }
@@ -31,30 +37,41 @@ impl<B: Opening> Desk<B> {
         let Some(ledger) = board.into_inner().into_ledger() else {
             return Err(None);
         };
-        let (store, journal) = ledger.into_parts();
-        match journal {
-            Some(journal) => settled(store, journal, receipts),
-            None => Ok(Closed {
+        let LedgerParts {
+            store,
+            keeper,
+            journal,
+            failed,
+        } = ledger.into_parts();
+        match entries_of(alloc, journal, receipts) {
+            Some(journal) => Ok(Closed {
                 store,
-                journal: Vec::new(alloc),
+                keeper,
+                journal,
+                failed,
             }),
+            None => Err(Some(store)),
         }
     }
 }
 
-/// The store and its journal, where the receipts stand in it, each once.
-fn settled(store: Store, journal: Journal, receipts: &[Receipt]) -> Result<Closed, Option<Store>>
-    ensures history { (opening : StoreState) → IsJournal opening journal store
-        → IfOk result (λ closed. IsHistory opening receipts.now closed.journal.items closed.store) }
-    ensures store { IfOk result (λ closed. closed.store ≡ store) }
-    ensures back { IfErr result (λ back. back ≡ Some store) }
-    ensures refused { (opening : StoreState) → OnErr result (IsHistory opening receipts.now journal.rounds store → ⊥) }
+/// The rounds of the journal, where the receipts stand in it, each once. Without a journal there are none.
+fn entries_of(
+    alloc: Global,
+    journal: Option<Journal>,
+    receipts: &[Receipt],
+) -> Option<Vec<JournalEntry>>
+    ensures history { (opening last : StoreState) → IsJournalOf opening journal last → IsSome journal
+        → IfSome result (λ entries. IsHistory opening receipts.now entries.items last) }
+    ensures refused { (opening last : StoreState) → IfSome journal (λ journal.
+        IsHistory opening receipts.now journal.rounds last → IsSome result) }
+    ensures plain { IsNone journal → IsSome result × IfSome result (λ entries. entries.items ≡ []) }
 {
+    let Some(journal) = journal else {
+        return Some(Vec::new(alloc));
+    };
     if !journal.has(receipts) {
-        return Err(Some(store));
+        return None;
     }
-    Ok(Closed {
-        store,
-        journal: journal.into_entries(),
-    })
+    Some(journal.into_entries())
 }

@@ -2,32 +2,33 @@
 ghost use Rattle.std.specs.Prelude.{◌≡◌, ◌<◌, [], length, All, IfOk};
 ghost use Rattle.std.specs.Vec.{vec_capacity};
 ghost use Rattle.grove_desk.specs.Histories.{IsDeskReceipt};
-ghost use Rattle.grove_desk.specs.Boards.{Holds, Takes};
+ghost use Rattle.grove_desk.specs.Boards.{Takes};
 
 use super::ALONE;
 use crate::asked::Asked;
 use crate::board::Board;
+use crate::fault::NoReceipt;
 use crate::ledger::Ledger;
 use crate::pipeline::Pipeline;
 use crate::turn::{Leading, Turn};
 use crate::{Desk, Opening, Receipt, RoundWatch};
+use grove_store::Keeper;
 use grove_tree::{Gate, NoMemory};
 use std::alloc::Global;
 use std::sync::atomic::Ordering;
 use std::sync::{MutexGuard, Wait};
 use std::thread::Threads;
 
-impl<B: Opening> Desk<B> {
+impl<B: Opening, K: Keeper + Drop> Desk<B, K> {
     /// Puts lines once there is room for them, and gives their ticket and what their caller does next.
     pub(super) fn put<R: Wait>(
         &self,
         rt: &R,
-        lines: Pipeline,
+        lines: Pipeline<B, K>,
         taken: &mut Vec<Asked>,
-    ) -> Result<(u64, Turn<Ledger<B>>), NoMemory>
-        requires held { Holds B.store B.kept lines }
-        requires none { taken.old.items ≡ [] }
-        ensures lines { IfOk result (λ put. Takes B.store B.kept put.1 taken.new.items) }
+    ) -> Result<(u64, Turn<Pipeline<B, K>, Ledger<B, K>>), NoMemory>
+        requires { taken.old.items ≡ [] }
+        ensures lines { IfOk result (λ put. Takes put.1 taken.new.items) }
         ensures room { vec_capacity taken.new ≡ vec_capacity taken.old }
     {
         let mut board = self.board.lock(rt);
@@ -57,16 +58,15 @@ impl<B: Opening> Desk<B> {
         rt: &R,
         alloc: Global,
         ticket: u64,
-        turn: Turn<Ledger<B>>,
+        turn: Turn<Pipeline<B, K>, Ledger<B, K>>,
         leading: Leading,
         taken: &mut Vec<Asked>,
         gate: &G,
         watch: &W,
-    ) -> (Result<Receipt, NoMemory>, Pipeline)
-        requires lines { Takes B.store B.kept turn taken.old.items }
+    ) -> (Result<Receipt, NoReceipt>, Pipeline<B, K>)
+        requires lines { Takes turn taken.old.items }
         requires room { vec_capacity taken.old ≡ 16 }
-        ensures first { IfOk result.0 (IsDeskReceipt B.store B.kept) }
-        ensures rest { Holds B.store B.kept result.1 }
+        ensures { IfOk result.0 (IsDeskReceipt K.stands_for B.store B.kept) }
     {
         let mut turn = turn;
         for _ in rt.forever() {
@@ -103,12 +103,12 @@ impl<B: Opening> Desk<B> {
     fn await_turn<R: Wait>(
         &self,
         rt: &R,
-        board: MutexGuard<'_, Board<B>>,
+        board: MutexGuard<'_, Board<B, K>>,
         ticket: u64,
         taken: &mut Vec<Asked>,
-    ) -> Turn<Ledger<B>>
+    ) -> Turn<Pipeline<B, K>, Ledger<B, K>>
         requires { taken.old.items ≡ [] }
-        ensures lines { Takes B.store B.kept result taken.new.items }
+        ensures lines { Takes result taken.new.items }
         ensures room { vec_capacity taken.new ≡ vec_capacity taken.old }
     {
         let mut board = board;
@@ -128,14 +128,14 @@ impl<B: Opening> Desk<B> {
     fn put_back<R: Wait>(
         &self,
         rt: &R,
-        ledger: Ledger<B>,
+        ledger: Ledger<B, K>,
         ticket: u64,
         leading: Leading,
         taken: &mut Vec<Asked>,
-        answered: Result<Vec<Receipt>, NoMemory>,
-    ) -> Turn<Ledger<B>>
-        requires { IfOk answered (λ receipts. All (IsDeskReceipt B.store B.kept) receipts.items) }
-        ensures lines { Takes B.store B.kept result taken.new.items }
+        answered: Result<Vec<Receipt>, NoReceipt>,
+    ) -> Turn<Pipeline<B, K>, Ledger<B, K>>
+        requires { IfOk answered (λ receipts. All (IsDeskReceipt K.stands_for B.store B.kept) receipts.items) }
+        ensures lines { Takes result taken.new.items }
         ensures room { vec_capacity taken.new ≡ vec_capacity taken.old }
     {
         let mut board = self.board.lock(rt);

@@ -1,13 +1,15 @@
 ghost use Rattle.std.specs.Prelude.{IfOk};
-ghost use Rattle.grove_desk.specs.Desks.{TellsLater};
+ghost use Rattle.grove_desk.specs.Desks.{TellsLater, store_told};
+ghost use Rattle.grove_desk.specs.Histories.{IsKept};
 
-use crate::{Awaited, Desk, Opening};
+use crate::{Awaited, Desk, DeskFault, Opening};
+use grove_store::Keeper;
 use grove_tree::NoMemory;
 use std::alloc::Global;
 use std::sync::Wait;
 use std::time::{Clock, Duration};
 
-impl<B: Opening> Desk<B> {
+impl<B: Opening, K: Keeper + Drop> Desk<B, K> {
     /// A copy of the store once a round later than this one is done, or as it stands if none is done for so long. It
     /// takes no line's turn meanwhile, and is woken only for such a round. As `snapshot` it may wait for a round that
     /// runs.
@@ -17,8 +19,9 @@ impl<B: Opening> Desk<B> {
         alloc: Global,
         after: u64,
         longest: Duration,
-    ) -> Result<Awaited, NoMemory>
-        ensures { IfOk result (TellsLater self.now.opening after) }
+    ) -> Result<Awaited, DeskFault>
+        ensures later { IfOk result (TellsLater self.now.opening after) }
+        ensures kept { IfOk result (λ awaited. IsKept K.stands_for (store_told awaited)) }
     {
         let _is_past = self.await_round(rt, after, longest)?;
         let store = self.snapshot(rt, alloc)?;

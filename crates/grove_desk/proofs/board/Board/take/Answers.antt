@@ -5,6 +5,5 @@ pub loop-place-preserved : goal.loop-place-preserved
 loop-place-preserved g c = record {
   ledger = c.loop-place.invariant.ledger;
   length = c.take_line.ensures.length ∙ c.loop-place.invariant.length;
-  held = c.take_line.ensures.held g.B.Opening.store g.B.Opening.kept c.loop-place.invariant.held;
   room = c.take_line.ensures.room ∙ c.loop-place.invariant.room;
 }

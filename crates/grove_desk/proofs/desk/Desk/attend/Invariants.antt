@@ -6,4 +6,4 @@ use Rattle.grove_desk.proofs.desk.Desk.attend.Given as goal
 abbrev pub invariant-loop : goal.invariant-loop
 invariant-loop g l =
     (goal.iterator-loop g).can_next l.iterator' × (goal.iterator-loop g).is_finite l.iterator'
-    × Takes g.B.Opening.store g.B.Opening.kept l.turn l.taken.items × (vec_capacity l.taken ≡ 16)
+    × Takes l.turn l.taken.items × (vec_capacity l.taken ≡ 16)

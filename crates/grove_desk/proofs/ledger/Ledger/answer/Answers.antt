@@ -1,47 +1,31 @@
-use Rattle.std.proofs.Common.{Option, Some, None, sym, subst}
-use Rattle.grove_desk.specs.Ledgers.{JournalState, IsLedger}
-use Rattle.grove_desk.proofs.Keeping.{noted_after, plain_after, answered_where}
+use Rattle.std.proofs.Common.{sym}
+use Rattle.std.proofs.lemmas.Bool.{false≢true}
+use Rattle.grove_desk.proofs.Keeping.{account_more, answered_by, next_of}
 use Rattle.grove_desk.proofs.ledger.Ledger.answer.Goals as goal
 
-pub invariant_of-self : goal.invariant_of-self
-invariant_of-self g c =
-    let opening = g.B.Opening.store in
-    let kept = g.B.Opening.kept in
-    let is : IsLedger opening kept c.self.inside.store (Some c.in-Some.journal) =
-    subst (λ (j : Option JournalState). IsLedger opening kept c.self.inside.store j) c.in-Some.is
-    c.self.invariant in
-    noted_after c.answer.result (λ receipts. receipts.items) opening kept c.self.inside.store c.answer.new.store
-    _ _ c.in-Some.journal c.answer.new.self is c.answer.ensures.answered c.answer.ensures.numbered
-    c.answer.ensures.journal c.answer.ensures.err
+pub keep-requires : goal.keep-requires
+keep-requires g c = (
+  c.self.inside.store,
+  c.self.invariant.stands c.if-self.false,
+  next_of _ _ _ c.in_ok-receipts.ensures.answered.round,
+)
 
-pub invariant_of-self-in-None : goal.invariant_of-self-in-None
-invariant_of-self-in-None g c =
-    let opening = g.B.Opening.store in
-    let kept = g.B.Opening.kept in
-    let is : IsLedger opening kept c.self.inside.store None =
-    subst (λ (j : Option JournalState). IsLedger opening kept c.self.inside.store j) c.in-None.is
-    c.self.invariant in
-    subst (λ (j : Option JournalState). IsLedger opening kept c.answer_taken.new.store j) (sym c.in-None.is)
-    (plain_after c.answer_taken.result (λ receipts. receipts.items) opening kept c.self.inside.store
-    c.answer_taken.new.store _ _ is c.answer_taken.ensures.answered c.answer_taken.ensures.numbered
-    c.answer_taken.ensures.err)
+pub invariant_of-self-in-Ok : goal.invariant_of-self-in-Ok
+invariant_of-self-in-Ok g c =
+    let told = c.in_ok-receipts.ensures in record {
+      account = account_more _ _ _ _ _ _ _ c.self.invariant.account told.answered.round told.numbered told.journal;
+      stands = λ sound. c.in-Ok.ensures.kept;
+    }
 
-pub returns-in-Some-clause-receipts : goal.returns-in-Some-clause-receipts
-returns-in-Some-clause-receipts g c =
-    let opening = g.B.Opening.store in
-    let kept = g.B.Opening.kept in
-    let is : IsLedger opening kept c.self.inside.store (Some c.in-Some.journal) =
-    subst (λ (j : Option JournalState). IsLedger opening kept c.self.inside.store j) c.in-Some.is
-    c.self.invariant in
-    answered_where c.answer.result (λ receipts. receipts.items) opening kept c.self.inside.store c.answer.new.store
-    _ _ (Some c.in-Some.journal) is c.answer.ensures.answered c.answer.ensures.numbered
+pub invariant_of-self-in-Err-1 : goal.invariant_of-self-in-Err-1
+invariant_of-self-in-Err-1 g c =
+    let told = c.in_ok-receipts.ensures in record {
+      account = account_more _ _ _ _ _ _ _ c.self.invariant.account told.answered.round told.numbered told.journal;
+      stands = λ sound. absurd (false≢true (sym sound));
+    }
 
-pub returns-in-None-clause-receipts : goal.returns-in-None-clause-receipts
-returns-in-None-clause-receipts g c =
-    let opening = g.B.Opening.store in
-    let kept = g.B.Opening.kept in
-    let is : IsLedger opening kept c.self.inside.store None =
-    subst (λ (j : Option JournalState). IsLedger opening kept c.self.inside.store j) c.in-None.is
-    c.self.invariant in
-    answered_where c.answer_taken.result (λ receipts. receipts.items) opening kept c.self.inside.store
-    c.answer_taken.new.store _ _ None is c.answer_taken.ensures.answered c.answer_taken.ensures.numbered
+pub returns-in-Ok-clause-receipts : goal.returns-in-Ok-clause-receipts
+returns-in-Ok-clause-receipts g c =
+    let told = c.in_ok-receipts.ensures in
+    answered_by g.K.Keeper.stands_for _ _ _ c.answer_noted.new.store _ _ c.self.invariant.account told.answered.round
+    told.numbered (record { keeper = c.keep.new.self; stands = c.in-Ok.ensures.kept })
