@@ -30,6 +30,8 @@ def commands_of_pages(packages: Packages, room: Path, tally: Tally) -> None:
     note_equal(tally, "what it is linked with beside the C library", linked - C_LIBRARY, set())
     pages = [(TOP / name).read_text(encoding="utf-8") for name in ("README.md", "docs/COMMANDS.md")]
     shown = [found for page in pages for found in SHOWN.findall(page)]
+    with server_in(root, "serve", "settings.json", "--data", "kept.grove"):
+        pass
     for words, wanted in shown:
         # Beside a refusal a page may leave the hint out.
         came = said_in(root, words.split())
@@ -86,9 +88,9 @@ def paged(packages: Packages, room: Path, tally: Tally) -> None:
         note_equal(tally, "GET /document", [node.get("value", 0) for node in document["nodes"]], [0, 10, 20])
 
 
-def server_in(root: Root, command: str, example: str) -> Server:
+def server_in(root: Root, command: str, example: str, *further: str) -> Server:
     tree = f"{root.pages}/examples/{example}"
-    program, *words = root.words(command, "--tree", tree, "--port", str(free_port()), *SERVING)
+    program, *words = root.words(command, "--tree", tree, "--port", str(free_port()), *SERVING, *further)
     return Server(program, words)
 
 

@@ -8,7 +8,7 @@ from pathlib import Path
 
 from sweeps.program import Tally
 
-COMMANDS = ["judge", "check", "plan", "draw", "run", "audit", "tree", "serve", "page", "ask", "save"]
+COMMANDS = ["judge", "check", "plan", "draw", "run", "audit", "tree", "serve", "page", "data", "ask", "save"]
 
 
 def note_equal(tally: Tally, what: str, came: object, wanted: object) -> None:

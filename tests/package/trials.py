@@ -21,11 +21,12 @@ from tool_trials import Trial
 
 # What a unit file of a service has to have, and what each.
 GRANTED = ["DynamicUser=yes", "NoNewPrivileges=yes", "MemoryMax=", "TasksMax="]
+SERVING_UNIT = [*GRANTED, "--verbose", "--idle", "--data ", "KillSignal=SIGTERM"]
 UNITS = {
-    "grove-page.service": [*GRANTED, "--verbose", "--idle", "KillSignal=SIGTERM"],
+    "grove-page.service": [*SERVING_UNIT, "StateDirectory=grove-page"],
     "grove-save.service": [*GRANTED, "--port 8080", "Type=oneshot", "StateDirectory=grove", "TimeoutStartSec="],
     "grove-save.timer": ["OnCalendar=", "WantedBy=timers.target"],
-    "grove-serve.service": [*GRANTED, "--verbose", "--idle", "KillSignal=SIGTERM"],
+    "grove-serve.service": [*SERVING_UNIT, "StateDirectory=grove-serve"],
     "grove-work.service": [*GRANTED, "--verbose"],
 }
 

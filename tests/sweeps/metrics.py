@@ -48,6 +48,8 @@ COLUMNS = ("accepted_connections", "turned_away_connections", "idled_connections
 PROTOCOLS = ("tcp", "http")
 LINES_CLOSED = (b"".join(LINES), post(b"".join(LINES)))
 LATE = 2
+# A server that keeps its rounds has some families more.
+KEEPING = ("--data", "store.grove")
 # So long that those who come late find all slots taken, on a machine with other work too.
 IDLE = ("--idle", "6")
 # Turns, each fourth of which is long, and the least share of the time seen outside that it may have.
@@ -466,7 +468,7 @@ def families(program: str, tally: Tally) -> None:
     rows = re.findall(r"^\| (`[a-z_`, {}]+`) \| (counter|gauge|histogram) \|", PAGES.read_text(), re.MULTILINE)
     wanted = [(*named, kind) for names, kind in rows for named in re.findall(r"`([a-z_]+)(?:\{([a-z]+)\})?`", names)]
     before = time.time()
-    with Both(program) as server:
+    with Both(program, *KEEPING) as server:
         after = time.time()
         server.talk(b"\n")
         with Client(server.http) as client:
@@ -494,7 +496,7 @@ def checked(program: str, tally: Tally) -> None:
     if not checker:
         tally.note("promtool", None)
         return
-    with Both(program) as server:
+    with Both(program, *KEEPING) as server:
         server.talk(b"".join(LINES))
         for query in ("", "?nodes=1"):
             with Client(server.http) as client:

@@ -365,7 +365,7 @@ def what_the_page_asks(program: str, tally: Tally) -> None:
     paths = re.findall(r'(?:answerOf\(|href=)"(/[a-z]*)(?:\?hints)?"', script)
     queries = set(re.findall(r"\?[a-z]+=[^`]*", script))
     tally.note("the queries", None if queries == {"?after=${rounds}"} else f"they are {queries}")
-    tally.note("the paths", None if {*paths} == {"/", "/nodes", "/document"} else f"they are {paths}")
+    tally.note("the paths", None if {*paths} == {"/", "/nodes", "/document", "/metrics"} else f"they are {paths}")
     store = Store(json.loads(TREE))
     filled = {"${jsonOf(list)}": LIST, '${lists.map(jsonOf).join(",")}': f"{LIST},{LIST}"}
     with serving(program, TREE) as server, Client(server.port) as client:

@@ -5,12 +5,13 @@ from __future__ import annotations
 UNIT = """\
 # grove @COMMAND@ as a service: @WHAT@.
 #
-# It needs a document with a tree and its records (FORMATS.md), which everybody may read:
+# It needs a document with a tree (FORMATS.md), which everybody may read. Its store is made of that at the first start:
 #
 #   install -D -m 644 @PREFIX@/share/doc/grove/examples/settings.json /etc/grove/tree.json
 #   systemctl enable --now grove-@COMMAND@
 #
-# The records live in memory: a restart begins with those of the document again.@KEPT@
+# Each round is kept in /var/lib/grove-@COMMAND@/store.grove, from which a restart goes on. Of the document only the
+# names are looked at then.@KEPT@
 [Unit]
 Description=grove @COMMAND@, @WHAT@
 Documentation=man:grove(1)
@@ -19,20 +20,22 @@ After=network.target
 
 [Service]
 Type=exec
-# The words behind the document. `systemctl edit grove-@COMMAND@` gives others (Environment= again), and so does a line
+# Further words. `systemctl edit grove-@COMMAND@` gives others (Environment= again), and so does a line
 # GROVE_@NAME@="--port @PORT@" in /etc/default/grove.
 #   --verbose   the journal gets who comes and goes and why, which lines are refused, and what was done in each minute.
 #   --idle 600  @IDLE@
 # It listens at 127.0.0.1; --bind ADDRESS is for another address, and every client that reaches that may read and write.
 Environment="GROVE_@NAME@=--port @PORT@ --verbose --idle 600"
 EnvironmentFile=-/etc/default/grove
-ExecStart=@PREFIX@/bin/grove @COMMAND@ --tree /etc/grove/tree.json $GROVE_@NAME@
+ExecStart=@PREFIX@/bin/grove @COMMAND@ --tree /etc/grove/tree.json \\
+    --data /var/lib/grove-@COMMAND@/store.grove $GROVE_@NAME@
+StateDirectory=grove-@COMMAND@
 # What long lines took goes back to the system once they are answered.
 Environment=GLIBC_TUNABLES=@SERVER_MEMORY@
-# Status 1 is a document that is refused, 2 a wrong word: neither gets better by another start.
+# Status 1 is a document or a file of rounds that is refused, 2 a wrong word: neither gets better by another start.
 Restart=on-failure
 RestartPreventExitStatus=1 2
-# SIGTERM ends it at once, and its records with it. So stop its clients, and run `systemctl start grove-save`, first.
+# SIGTERM ends it at once. What was replied is kept.
 KillSignal=SIGTERM
 TimeoutStopSec=10
 
@@ -179,7 +182,7 @@ PAGE = {
     "COMMAND": "page",
     "NAME": "PAGE",
     "WHAT": "the records of a tree over HTTP, with a page to look at them",
-    "KEPT": "\n# `curl http://127.0.0.1:8080/document` prints a document of what they are now, to begin with instead.",
+    "KEPT": "\n# `curl http://127.0.0.1:8080/document` prints a document of what there is now.",
     "PORT": "8080",
     "IDLE": "a client that sends no whole request for ten minutes loses its connection slot; there are 16.",
 }

@@ -1,11 +1,9 @@
 -- What is read of a document and printed of an answer.
 use Rattle.std.proofs.Common.{rules, ◌≡◌, ℕ, Bool, ◌+◌, ◌<◌, ◌≤◌, nat_lt, true, refl, List, ◌++◌, length, Option, Some}
-use Rattle.std.proofs.Common.{None, IfSome, Result, Ok, Err, string_bytes, ◌⊎◌, OnErr, sym, ap, ◌∙◌, subst, inl, inr}
+use Rattle.std.proofs.Common.{None, IfSome, IfOk, Result, Ok, Err, string_bytes, ◌⊎◌, OnErr, sym, ap, ◌∙◌, subst, inl, inr}
 use Rattle.std.proofs.Common.{arith, take, length-append, append-nil}
 use Rattle.std.proofs.lemmas.Bool.{cases_lt, cond-true}
 use Rattle.std.specs.Io.KnownBytes.{Appends, Consumes, IsAtEnd}
-use Rattle.serde_json.specs.Data.{Data}
-use Rattle.grove_wire.specs.declared.fault.WireFault.{WireFault}
 use Rattle.grove_wire.specs.declared.fault.WireFault.TheVariants.{Limit}
 use Rattle.grove_wire.specs.declared.place.Part.TheVariants.{Whole}
 use Rattle.grove_wire.specs.Places.{whole_of}
@@ -15,13 +13,12 @@ use Rattle.grove_words.specs.declared.order.Command.TheVariants.{Judge, Check, P
 use Rattle.grove_words.specs.declared.order.Command.TheVariants.{Serve, Page}
 use Rattle.grove_words.specs.declared.order.Document.{Document}
 use Rattle.grove_words.specs.declared.order.Document.TheVariants.{StandardInput, Named}
-use Rattle.grove_words.specs.declared.order.Order.TheVariants.{Do}
 use Rattle.grove_answer.specs.Outcomes.{Outcome, ThenSays}
 use Rattle.grove.specs.declared.answer.Answer.{Answer}
 use Rattle.grove.specs.declared.answer.Answer.TheVariants.{Done, Refused, Listen}
-use Rattle.grove.specs.Answers.{most_bytes, printed, status_of, IsAnswerTo, IsAsGoodAs, IsStopped}
+use Rattle.grove.specs.Answers.{most_bytes, printed, status_of, IsAnswerTo, IsAsGoodAs, IsStopped, Tells}
 use Rattle.grove.specs.Outcomes.{document_for, text_of_table, MaySay, outcome_status, outcome_text, IsOutcome}
-use Rattle.grove.specs.Runs.{done_status, IsDone, IsPrinted, MaySayOf}
+use Rattle.grove.specs.Runs.{done_status, IsPrinted, IsSaid, MaySayOf}
 
 -- ---- what is read
 
@@ -79,44 +76,57 @@ said_of command (Named name) known bytes outcome good said = (bytes, said)
 
 -- ---- what is printed
 
--- an answer prints what is said, with its status
-says_printed : (command : Command) (found : Result Data WireFault) (answer : Answer) → IsAnswerTo command found answer
-    → (outcome : Outcome) × ThenSays found (MaySay command) outcome × (printed answer ≡ outcome_text outcome)
-    × (status_of answer ≡ outcome_status (done_status command) outcome)
-says_printed command found (Done lines) (ends, says) = (Ok (string_bytes lines), says, refl, sym ends)
-says_printed command found (Refused line cause) (fault, says, is) = (Err fault, says, is, refl)
-says_printed command found (Listen line service) (stays, says) = (Ok (string_bytes line), says, refl, sym stays)
+-- an answer prints what it tells, with its status
+told_printed : (May : Outcome → Type 0) (done : ℕ) (answer : Answer) → Tells May done answer
+    → (outcome : Outcome) × May outcome × (printed answer ≡ outcome_text outcome)
+    × (status_of answer ≡ outcome_status done outcome)
+told_printed May done (Done lines) (ends, says) = (Ok (string_bytes lines), says, refl, sym ends)
+told_printed May done (Refused line cause) (fault, says, is) = (Err fault, says, is, refl)
+told_printed May done (Listen line service) (stays, says) = (Ok (string_bytes line), says, refl, sym stays)
 
-module _ (command : Command) (document : Document) (known : Option (List ℕ)) (bytes : List ℕ) (answer : Answer)
-    (good : IsAsGoodAs command document known bytes)
-    (says : IsAnswerTo command (document_for command bytes) answer) where
+module _ (May : Outcome → Type 0) (done : ℕ) (answer : Answer) (tells : Tells May done answer) where
   -- whole
-  pub is_printed : (old new : Option (List ℕ)) (status : ℕ) → status ≡ status_of answer
-      → Appends old new (printed answer)
-      → IsPrinted (MaySayOf command document known) (done_status command) old new status
+  is_printed : (old new : Option (List ℕ)) (status : ℕ) → status ≡ status_of answer
+      → Appends old new (printed answer) → IsPrinted May done old new status
   is_printed old new status is out =
-      let said = says_printed command (document_for command bytes) answer says in (
-        said.0,
-        said_of command document known bytes said.0 good said.1,
-        is ∙ said.3,
-        subst (Appends old new) said.2 out,
-      )
+      let said = told_printed May done answer tells in
+      (said.0, said.1, is ∙ said.3, subst (Appends old new) said.2 out)
 
   -- or in part
-  pub is_stopped : (old new : Option (List ℕ)) (fails : Bool) → IsStopped answer fails old new
-      → IsDone (Do command document) known old new fails 3
+  is_stopped : (old new : Option (List ℕ)) (fails : Bool) → IsStopped answer fails old new
+      → IsSaid May done old new fails 3
   is_stopped old new fails (inl (failed, count, out)) =
-      let said = says_printed command (document_for command bytes) answer says in inr (
+      let said = told_printed May done answer tells in inr (
         refl,
-        inr (
-          failed,
-          said.0,
-          said_of command document known bytes said.0 good said.1,
-          count,
-          subst (λ text. Appends old new (take count text)) said.2 out,
-        ),
+        inr (failed, said.0, said.1, count, subst (λ text. Appends old new (take count text)) said.2 out),
       )
   is_stopped old new fails (inr (listens, out)) = inl (is_printed old new 3 (sym listens) out)
+
+-- what was printed of an answer, or was stopped
+pub all_printed : {E : Type 0} (May : Outcome → Type 0) (done : ℕ) (answer : Answer) → Tells May done answer
+    → (result : Result ℕ E) (old new : Option (List ℕ))
+    → IfOk result (λ status. (status ≡ status_of answer) × Appends old new (printed answer))
+    → IfOk result (IsPrinted May done old new)
+all_printed May done answer tells (Ok status) old new (is, out) = is_printed May done answer tells old new status is out
+all_printed May done answer tells (Err why) old new said = tt
+
+pub all_stopped : {E : Type 0} (May : Outcome → Type 0) (done : ℕ) (answer : Answer) → Tells May done answer
+    → (result : Result ℕ E) (old new : Option (List ℕ)) (fails : Bool)
+    → OnErr result (IsStopped answer fails old new)
+    → OnErr result (IsSaid May done old new fails 3)
+all_stopped May done answer tells (Ok status) old new fails stopped = tt
+all_stopped May done answer tells (Err why) old new fails stopped = is_stopped May done answer tells old new fails stopped
+
+-- what is said of the bytes that were read is said of the document
+pub tells_of : (command : Command) (document : Document) (known : Option (List ℕ)) (bytes : List ℕ) (answer : Answer)
+    → IsAsGoodAs command document known bytes → IsAnswerTo command (document_for command bytes) answer
+    → Tells (MaySayOf command document known) (done_status command) answer
+tells_of command document known bytes (Done lines) good (ends, says) =
+    (ends, said_of command document known bytes (Ok (string_bytes lines)) good says)
+tells_of command document known bytes (Refused line cause) good (fault, says, is) =
+    (fault, said_of command document known bytes (Err fault) good says, is)
+tells_of command document known bytes (Listen line service) good (stays, says) =
+    (stays, said_of command document known bytes (Ok (string_bytes line)) good says)
 
 -- ---- results
 

@@ -7,10 +7,11 @@ use Rattle.grove_words.specs.declared.order.Command.{Command}
 use Rattle.grove_words.specs.declared.order.Command.TheVariants as command
 use Rattle.grove_words.specs.declared.order.Document.{Document}
 use Rattle.grove_words.specs.declared.order.Document.TheVariants.{StandardInput, Named}
-use Rattle.grove_answer.specs.Outcomes.{ThenSays}
+use Rattle.grove_words.specs.declared.order.Place.{Place}
+use Rattle.grove_answer.specs.Outcomes.{Outcome, ThenSays}
 use Rattle.grove.specs.declared.answer.Answer.{Answer}
 use Rattle.grove.specs.declared.answer.Answer.TheVariants.{Done, Refused, Listen}
-use Rattle.grove.specs.Lines.{refusal_line}
+use Rattle.grove.specs.Lines.{refusal_line, NamesPlace}
 use Rattle.grove.specs.Outcomes.{document_for, MaySay}
 use Rattle.grove.specs.Runs.{done_status}
 
@@ -25,14 +26,21 @@ IsAsGoodAs command StandardInput known bytes =
     IfSome known (λ whole. document_for command whole ≡ document_for command bytes)
 IsAsGoodAs command (Named name) known bytes = Unit {0}
 
+-- an answer tells what may be said; what is done has the status `done`
+abbrev pub Tells : (Outcome → Type 0) → ℕ → Answer → Type 0
+Tells May done (Done lines) = (done ≡ 0) × May (Ok (string_bytes lines))
+Tells May done (Refused line cause) = (fault : List ℕ) × May (Err fault) × (string_bytes line ≡ refusal_line fault)
+Tells May done (Listen line service) = (done ≡ 3) × May (Ok (string_bytes line))
+
 -- a command may give this answer to what its document is read as
 abbrev pub IsAnswerTo : Command → Result Data WireFault → Answer → Type 0
-IsAnswerTo command found (Done lines) =
-    (done_status command ≡ 0) × ThenSays found (MaySay command) (Ok (string_bytes lines))
-IsAnswerTo command found (Refused line cause) =
-    (fault : List ℕ) × ThenSays found (MaySay command) (Err fault) × (string_bytes line ≡ refusal_line fault)
-IsAnswerTo command found (Listen line service) =
-    (done_status command ≡ 3) × ThenSays found (MaySay command) (Ok (string_bytes line))
+IsAnswerTo command found = Tells (ThenSays found (MaySay command)) (done_status command)
+
+-- a place is listened at
+abbrev pub IsListening : Place → Answer → Type 0
+IsListening place (Done lines) = ⊥
+IsListening place (Refused line cause) = ⊥
+IsListening place (Listen line service) = NamesPlace place (string_bytes line)
 
 -- what is printed of an answer, and its status then
 abbrev pub printed : Answer → List ℕ

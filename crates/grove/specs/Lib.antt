@@ -1,4 +1,6 @@
 pub mod Answers
+pub mod Keepers
 pub mod Lines
+pub mod Opening
 pub mod Outcomes
 pub mod Runs

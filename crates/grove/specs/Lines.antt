@@ -12,6 +12,10 @@ use Rattle.grove_words.specs.declared.order.Port.TheVariants.{Any, Named}
 abbrev pub refusal_line : List ℕ → List ℕ
 refusal_line fault = codes "refused " ++ fault ++ 10 ∷ []
 
+-- the text of a fault of a file of rounds
+abbrev pub IsDataFault : List ℕ → Type 0
+IsDataFault fault = (why : List ℕ) × (fault ≡ codes "data " ++ why)
+
 -- an address before a port; one of IPv6 is in brackets
 abbrev pub address_text : IpAddr → List ℕ
 address_text (V4 address) = ipv4_text (ipv4_octets address)

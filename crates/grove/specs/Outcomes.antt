@@ -1,6 +1,6 @@
 -- What each command may say of bytes, and what the program prints of it.
 use Rattle.std.specs.Prelude.{◌≡◌, ℕ, ℤ, Bool, true, false, List, [], ◌∷◌, ◌++◌, length, nat_lt}
-use Rattle.std.specs.Prelude.{if◌then◌else◌, Result, Ok, Err}
+use Rattle.std.specs.Prelude.{if◌then◌else◌, Result, Ok, Err, IsSome, codes, decimal}
 use Rattle.std.specs.Str.{is_utf8}
 use Rattle.serde_json.specs.Data.{Data, string}
 use Rattle.grove_tree.specs.Trees.{Rows}
@@ -19,10 +19,13 @@ use Rattle.grove_words.specs.declared.order.Command.{Command}
 use Rattle.grove_words.specs.declared.order.Command.TheVariants.{Judge, Check, Plan, Draw, Run, Audit, Tree, Table}
 use Rattle.grove_words.specs.declared.order.Command.TheVariants.{Serve, Page}
 use Rattle.grove_words.specs.declared.order.Place.{Place}
+use Rattle.grove_words.specs.declared.order.Serving.{Serving}
+use Rattle.grove_store.specs.StoreStates.{StoreState}
+use Rattle.grove_data.specs.Files.{OpensAs}
 use Rattle.grove_answer.specs.Outcomes.{Outcome, ThenSays, task_in, trial_in, claim_in, sketch_in, batch_in, history_in}
 use Rattle.grove_answer.specs.Outcomes.{IsJudged, IsChecked, IsPlannedTask, IsPlannedDocument, IsDrawn, IsRunBatch}
 use Rattle.grove_answer.specs.Outcomes.{IsAudited}
-use Rattle.grove.specs.Lines.{refusal_line, NamesPlace}
+use Rattle.grove.specs.Lines.{refusal_line, IsDataFault, NamesPlace}
 
 -- ---- tree: the document of a table's text, and the table of a document
 
@@ -41,10 +44,27 @@ SaysTable adds_parents document (Ok lines) =
     (text : List ℕ) × (document ≡ string text) × IsMade (absent_for adds_parents) text lines
 SaysTable adds_parents document (Err fault) = Unit {0}
 
--- ---- serve and page: the line of the place that is listened at
+-- ---- serve and page: the lines of the place that is listened at; or that the file of rounds is refused, if there is one
 
-abbrev pub IsServed : Place → Rows × List ℤ → Outcome → Type 0
-IsServed place (tree, records) outcome = (line : List ℕ) × NamesPlace place line × (outcome ≡ Ok line)
+abbrev pub IsResumed : Place → Outcome → Type 0
+IsResumed place (Ok lines) = NamesPlace place lines
+IsResumed place (Err fault) = IsDataFault fault
+
+abbrev pub IsServed : Serving → Rows × List ℤ → Outcome → Type 0
+IsServed serving (tree, records) (Ok lines) = NamesPlace serving.place lines
+IsServed serving (tree, records) (Err fault) = IsSome serving.data × IsDataFault fault
+
+-- ---- data: the document of a store that bytes open as, or how many rounds it has done; or that they are refused
+
+abbrev pub TellsStore : Bool → List ℕ → Type 0
+TellsStore false lines = (file : List ℕ) × (store : StoreState) × OpensAs file store
+    × (lines ≡ document_text store.rows store.records ++ 10 ∷ [])
+TellsStore true lines = (file : List ℕ) × (store : StoreState) × OpensAs file store × (end : List ℕ)
+    × (lines ≡ codes "rounds " ++ (decimal store.rounds ++ (codes "\nbytes " ++ (decimal (length file) ++ end))))
+
+abbrev pub TellsFile : Bool → Outcome → Type 0
+TellsFile checks (Ok lines) = TellsStore checks lines
+TellsFile checks (Err fault) = IsDataFault fault
 
 -- ---- what a command may say of a document, and of bytes
 
@@ -58,8 +78,8 @@ MaySay (Run workers) document = ThenSays (batch_in document) IsRunBatch
 MaySay Audit document = ThenSays (history_in document) IsAudited
 MaySay (Tree adds_parents) document = SaysTable adds_parents document
 MaySay Table document = ThenSays (tree_in document) (λ stored outcome. outcome ≡ Ok (table_text stored.0 stored.1))
-MaySay (Serve serving) document = ThenSays (tree_in document) (IsServed serving.place)
-MaySay (Page serving) document = ThenSays (tree_in document) (IsServed serving.place)
+MaySay (Serve serving) document = ThenSays (tree_in document) (IsServed serving)
+MaySay (Page serving) document = ThenSays (tree_in document) (IsServed serving)
 
 -- the text that bytes are
 abbrev pub utf8_text : List ℕ → Result Data WireFault

@@ -6,10 +6,10 @@ use Rattle.grove_words.specs.declared.order.Command.TheVariants.{Serve, Page}
 use Rattle.grove_words.specs.declared.order.Document.{Document}
 use Rattle.grove_words.specs.declared.order.Document.TheVariants.{StandardInput, Named}
 use Rattle.grove_words.specs.declared.order.Order.{Order}
-use Rattle.grove_words.specs.declared.order.Order.TheVariants.{Do, Ask, Save}
+use Rattle.grove_words.specs.declared.order.Order.TheVariants.{Do, Resume, Data, Ask, Save}
 use Rattle.grove_answer.specs.Outcomes.{Outcome}
 use Rattle.grove.specs.Lines.{refusal_line}
-use Rattle.grove.specs.Outcomes.{outcome_status, outcome_text, IsOutcome}
+use Rattle.grove.specs.Outcomes.{outcome_status, outcome_text, IsOutcome, IsResumed, TellsFile}
 
 -- the status of a command that is done; one that serves goes on until something stops it
 abbrev pub done_status : Command → ℕ
@@ -34,6 +34,11 @@ IsCutOff MaySay old new fails = Keeps old new
     ⊎ ((fails ≡ true) × (outcome : Outcome) × MaySay outcome × (count : ℕ)
     × Appends old new (take count (outcome_text outcome)))
 
+-- the one or the other, with the status 3
+abbrev pub IsSaid : (Outcome → Type 0) → ℕ → Option (List ℕ) → Option (List ℕ) → Bool → ℕ → Type 0
+IsSaid MaySay done old new fails status =
+    IsPrinted MaySay done old new status ⊎ ((status ≡ 3) × IsCutOff MaySay old new fails)
+
 -- standard output got the line of some refusal
 abbrev pub SaysRefusal : Option (List ℕ) → Option (List ℕ) → Type 0
 SaysRefusal old new = (fault : List ℕ) × Appends old new (refusal_line fault)
@@ -43,6 +48,9 @@ abbrev pub IsDone : Order → Option (List ℕ) → Option (List ℕ) → Option
 IsDone (Do command document) input old new fails status =
     IsPrinted (MaySayOf command document input) (done_status command) old new status
     ⊎ ((status ≡ 3) × IsCutOff (MaySayOf command document input) old new fails)
+IsDone (Resume front file serving) input old new fails status =
+    IsSaid (IsResumed serving.place) 3 old new fails status
+IsDone (Data file checks) input old new fails status = IsSaid (TellsFile checks) 0 old new fails status
 IsDone (Ask server lines) input old new fails status = (status ≤ 1) ⊎ (status ≡ 3)
 IsDone (Save server file) input old new fails status =
     (((status ≡ 0) × Keeps old new) ⊎ ((status ≡ 1) × SaysRefusal old new))

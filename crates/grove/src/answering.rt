@@ -1,14 +1,17 @@
-ghost use Rattle.std.specs.Prelude.{◌≡◌, ◌≤◌, Result, Ok, IfOk, IfSome};
+ghost use Rattle.std.specs.Prelude.{◌≡◌, ◌≤◌, Bool, Result, Ok, IfOk, IfSome};
 ghost use Rattle.serde_json.specs.Data.{Data, depth};
 ghost use Rattle.serde_json.specs.View.{view};
 ghost use Rattle.grove_wire.specs.declared.fault.WireFault.{WireFault};
 ghost use Rattle.grove_answer.specs.Outcomes.{ThenSays};
 ghost use Rattle.grove_answer.specs.Says.{refusal_outcome, Says};
-ghost use Rattle.grove.specs.Answers.{IsAnswerTo};
-ghost use Rattle.grove.specs.Outcomes.{document_for, MaySay};
+ghost use Rattle.grove_words.specs.declared.order.Place.{Place};
+ghost use Rattle.grove.specs.Answers.{IsAnswerTo, Tells};
+ghost use Rattle.grove.specs.Outcomes.{document_for, IsResumed, MaySay, TellsFile};
 ghost use Rattle.grove.specs.Runs.{done_status};
 
 use crate::answer::{Answer, Cause, Response, Stop};
+use crate::data_opening::Keeping;
+use crate::data_refusal::DataRefusal;
 use crate::document::read_for;
 use crate::hinting::hint_beside;
 use crate::serving::serve_document;
@@ -27,18 +30,17 @@ use std::net::{Net, TcpListener, TcpStream};
 use std::rt::Files;
 
 /// What a command answers to the bytes of its document, and what a person is told beside it.
-pub fn response_to<R: Host + Files<File = File> + Net<Listener = TcpListener, Stream = TcpStream>>(
-    rt: &R,
-    command: &Command<'_>,
-    bytes: &[u8],
-) -> Result<Response, Stop>
+pub fn response_to<
+    'd,
+    R: Host + Files<File = File> + Net<Listener = TcpListener, Stream = TcpStream>,
+>(rt: &R, keeping: Keeping<'d>, command: &Command<'_>, bytes: &[u8]) -> Result<Response<'d>, Stop>
     ensures { IfOk result (λ response. IsAnswerTo command.now (document_for command.now bytes.now)
         response.answer) }
 {
     let alloc = rt.alloc();
     match read_for(alloc, command, bytes) {
         Ok(document) => {
-            let answer = answer_to(rt, command, &document)?;
+            let answer = answer_to(rt, keeping, command, &document)?;
             let hint = hint_beside(alloc, command, bytes, Some(&document), &answer);
             Ok(Response { answer, hint })
         }
@@ -51,11 +53,12 @@ pub fn response_to<R: Host + Files<File = File> + Net<Listener = TcpListener, St
 }
 
 /// What a command answers to its document.
-fn answer_to<R: Host + Files<File = File> + Net<Listener = TcpListener, Stream = TcpStream>>(
+fn answer_to<'d, R: Host + Files<File = File> + Net<Listener = TcpListener, Stream = TcpStream>>(
     rt: &R,
+    keeping: Keeping<'d>,
     command: &Command<'_>,
     document: &Value,
-) -> Result<Answer, Stop>
+) -> Result<Answer<'d>, Stop>
     requires { depth (view document.now) ≤ 127 }
     ensures { IfOk result (IsAnswerTo command.now (Ok (view document.now))) }
 {
@@ -71,13 +74,13 @@ fn answer_to<R: Host + Files<File = File> + Net<Listener = TcpListener, Stream =
         Command::Audit => done(alloc, audit_document(alloc, document)),
         Command::Tree { adds_parents } => answer_to_table(alloc, document, *adds_parents),
         Command::Table => done(alloc, table_of(alloc, document)),
-        Command::Serve(serving) => serve_document(rt, document, serving, Talk::Lines),
-        Command::Page(serving) => serve_document(rt, document, serving, Talk::Requests),
+        Command::Serve(serving) => serve_document(rt, keeping, document, serving, Talk::Lines),
+        Command::Page(serving) => serve_document(rt, keeping, document, serving, Talk::Requests),
     }
 }
 
 /// The answer that a command's result makes: its lines, or the line that says what is refused.
-fn done(alloc: Global, lines: Result<String, Refusal>) -> Result<Answer, Stop>
+fn done<'d>(alloc: Global, lines: Result<String, Refusal>) -> Result<Answer<'d>, Stop>
     ensures { (command : Command) (document : Data) → done_status command ≡ 0
         → Says (MaySay command document) lines
         → IfOk result (IsAnswerTo command (Ok document)) }
@@ -89,7 +92,7 @@ fn done(alloc: Global, lines: Result<String, Refusal>) -> Result<Answer, Stop>
 }
 
 /// The answer that a refusal makes.
-pub fn refused(alloc: Global, refusal: Refusal) -> Result<Answer, Stop>
+pub fn refused<'d>(alloc: Global, refusal: Refusal) -> Result<Answer<'d>, Stop>
     ensures { (command : Command) (found : Result Data WireFault)
         → IfSome (refusal_outcome refusal) (ThenSays found (MaySay command))
         → IfOk result (IsAnswerTo command found) }
@@ -105,6 +108,18 @@ pub fn refused(alloc: Global, refusal: Refusal) -> Result<Answer, Stop>
         }
         Refusal::Memory => Err(Stop::Memory),
     }
+}
+
+/// The answer that the refusal of a file of rounds makes.
+pub fn data_refused<'d>(alloc: Global, refusal: DataRefusal) -> Result<Answer<'d>, Stop>
+    ensures resumed { (place : Place) → IfOk result (Tells (IsResumed place) 3) }
+    ensures told { (checks : Bool) → IfOk result (Tells (TellsFile checks) 0) }
+{
+    let text = refusal.text(alloc)?;
+    Ok(Answer::Refused {
+        line: format!(in alloc; "refused {text}\n")?,
+        cause: Cause::Data(refusal),
+    })
 }
 
 /// What is said of the settled plan: its lines, or the document with it.

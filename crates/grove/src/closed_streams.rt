@@ -30,7 +30,8 @@ impl Placeholders {
 
 fn has_connections(order: &Order<'_>) -> bool {
     match order {
-        Order::Ask { .. } | Order::Save { .. } => true,
+        Order::Ask { .. } | Order::Save { .. } | Order::Resume { .. } => true,
+        Order::Data { .. } => false,
         Order::Do { command, .. } => matches!(command, Command::Serve(_) | Command::Page(_)),
     }
 }

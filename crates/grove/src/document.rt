@@ -58,7 +58,7 @@ fn most_bytes(command: &Command<'_>) -> usize
     }
 }
 
-fn file_bytes<R: Host + Files>(rt: &R, name: &str, most: usize) -> Result<Vec<u8>, Stop>
+pub fn file_bytes<R: Host + Files>(rt: &R, name: &str, most: usize) -> Result<Vec<u8>, Stop>
     requires { most ≤ 67108864 }
 {
     let file = match fs::open(rt, name) {

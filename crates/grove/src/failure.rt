@@ -1,7 +1,7 @@
 use crate::answer::Stop;
 use crate::server::Loss;
 use grove_base::{NoMemory, said};
-use grove_words::{Document, Invocation, Order, Place, Port};
+use grove_words::{Command, Document, Invocation, Order, Place, Port};
 use std::alloc::{AllocError, Global};
 use std::io::{self, ErrorKind};
 use std::net::SocketAddr;
@@ -18,10 +18,40 @@ pub enum Failure {
     /// The file of a save couldn't be written, or put in its place.
     Save(io::Error),
     Listen(Place, io::Error),
+    /// The file of a store's rounds.
+    Data(DataFailure),
     /// A port is no listener any more.
     Accept,
     Reach(SocketAddr, io::Error),
     Lose(SocketAddr, Loss),
+}
+
+/// What is wrong with the file of a store's rounds.
+#[derive(Clone, Copy)]
+pub enum DataFailure {
+    Open(io::Error),
+    /// It is a folder, a device or the like.
+    NotAFile,
+    /// Another server has it open.
+    Taken,
+    /// It has nothing, and there is no document to make it of.
+    Empty,
+    /// It isn't one of ours.
+    Foreign,
+    /// It is one of another version.
+    OtherVersion(u32),
+    /// It is one of ours, but what it has is no store.
+    NoStore,
+    /// It can't be written when it is opened.
+    Begin(io::Error),
+    /// A round can't be kept in it.
+    Keep(io::Error),
+}
+
+impl From<DataFailure> for Stop {
+    fn from(failure: DataFailure) -> Stop {
+        Failure::Data(failure).stop()
+    }
 }
 
 impl Failure {
@@ -32,7 +62,9 @@ impl Failure {
             | Failure::Save(error)
             | Failure::Listen(_, error)
             | Failure::Reach(_, error)
-                if error.kind() == ErrorKind::OutOfMemory => { Stop::Memory }
+            | Failure::Data(
+                DataFailure::Open(error) | DataFailure::Begin(error) | DataFailure::Keep(error),
+            ) if error.kind() == ErrorKind::OutOfMemory => { Stop::Memory }
             _ => Stop::Device(Some(self)),
         }
     }
@@ -116,12 +148,55 @@ fn reason(alloc: Global, order: &Order<'_>, failure: Failure) -> Result<String, 
             }
             Port::Any => format!(in alloc; "cannot listen on {address}: {error}"),
         },
+        Failure::Data(failure) => reason_of_data(alloc, order, failure),
         Failure::Accept => String::from_str(
             alloc,
             "cannot accept connections any more; the log of --verbose has the system's error",
         ),
         Failure::Reach(address, error) => format!(in alloc; "cannot reach {address}: {error}"),
         Failure::Lose(address, loss) => reason_of_loss(alloc, address, loss),
+    }
+}
+
+/// Why the file of a store's rounds isn't opened, or not written.
+fn reason_of_data(
+    alloc: Global,
+    order: &Order<'_>,
+    failure: DataFailure,
+) -> Result<String, AllocError> {
+    let file = shown(alloc, data_of(order))?;
+    match failure {
+        DataFailure::Open(error) => format!(in alloc; "cannot open {file}: {error}"),
+        DataFailure::NotAFile => format!(in alloc; "cannot open {file}: it is no regular file"),
+        DataFailure::Taken => format!(in alloc; "cannot open {file}: another server has it open"),
+        DataFailure::Empty => {
+            format!(in alloc;
+                "cannot open {file}: it is empty; with --tree it is made of a document"
+            )
+        }
+        DataFailure::Foreign => {
+            format!(in alloc; "cannot open {file}: it isn't a file of --data")
+        }
+        DataFailure::OtherVersion(version) => {
+            format!(in alloc;
+                "cannot open {file}: it has version {version}, and this grove reads version 1"
+            )
+        }
+        DataFailure::NoStore => format!(in alloc; "cannot open {file}: what it has is no store"),
+        DataFailure::Begin(error) => format!(in alloc; "cannot write {file}: {error}"),
+        DataFailure::Keep(error) => format!(in alloc; "cannot keep rounds in {file}: {error}"),
+    }
+}
+
+/// The name of the file of an order's rounds.
+fn data_of<'a>(order: &Order<'a>) -> &'a str {
+    match order {
+        Order::Do {
+            command: Command::Serve(serving) | Command::Page(serving),
+            ..
+        } => serving.data.unwrap_or(""),
+        Order::Resume { file, .. } | Order::Data { file, .. } => file,
+        _ => "",
     }
 }
 
@@ -141,16 +216,21 @@ fn reason_of_loss(alloc: Global, address: SocketAddr, loss: Loss) -> Result<Stri
     }
 }
 
-/// The name of the order's file, or its beginning, and where it has none that of the stream.
+/// The name of the file that an order reads or writes, and where it has none that of the stream.
 fn file_of(alloc: Global, order: &Order<'_>) -> Result<String, AllocError> {
     let name = match order {
         Order::Do {
             document: Document::Named(name),
             ..
         } => *name,
-        Order::Save { file, .. } => *file,
+        Order::Save { file, .. } | Order::Data { file, .. } => *file,
         _ => "standard input",
     };
+    shown(alloc, name)
+}
+
+/// A file's name, or its beginning.
+fn shown(alloc: Global, name: &str) -> Result<String, AllocError> {
     let mut shown = String::new(alloc);
     for (count, letter) in name.chars().enumerate() {
         if count >= MOST_SHOWN {

@@ -1,4 +1,6 @@
-use crate::answer::{Answer, Cause};
+ghost use Rattle.std.specs.Prelude.{◌≡◌};
+
+use crate::answer::{Answer, Cause, Response};
 use grove_base::{Hint, NoMemory};
 use grove_hint::{Asked, awaited, hint, hint_of_no_table, oversight};
 use grove_table::TableFault;
@@ -14,7 +16,7 @@ pub fn hint_beside(
     command: &Command<'_>,
     bytes: &[u8],
     document: Option<&Value>,
-    answer: &Answer,
+    answer: &Answer<'_>,
 ) -> Option<Hint> {
     let told = match (answer, document) {
         (
@@ -31,6 +33,13 @@ pub fn hint_beside(
             },
             _,
         ) => table_hint(alloc, bytes, fault).map(|hint| Some(hint)),
+        (
+            Answer::Refused {
+                cause: Cause::Data(_),
+                ..
+            },
+            _,
+        ) => Ok(hint_of_answer(alloc, answer)),
         (Answer::Done(_), Some(Value::String(_))) => Ok(None),
         (Answer::Done(_), Some(document)) => {
             oversight(alloc, asked_by(command), bytes, document)
@@ -40,6 +49,24 @@ pub fn hint_beside(
     match told {
         Ok(hint) => hint,
         Err(NoMemory) => None,
+    }
+}
+
+/// An answer, and beside it why a file of rounds is refused, if it is.
+pub fn with_hint<'d>(alloc: Global, answer: Answer<'d>) -> Response<'d>
+    ensures { result.answer ≡ answer.entry }
+{
+    let hint = hint_of_answer(alloc, &answer);
+    Response { answer, hint }
+}
+
+fn hint_of_answer(alloc: Global, answer: &Answer<'_>) -> Option<Hint> {
+    match answer {
+        Answer::Refused {
+            cause: Cause::Data(refusal),
+            ..
+        } => refusal.hint(alloc).ok(),
+        _ => None,
     }
 }
 

@@ -18,6 +18,10 @@ mod answering;
 mod asking;
 mod closed_streams;
 mod command;
+mod data_file;
+mod data_opening;
+mod data_refusal;
+mod data_telling;
 mod document;
 mod explained;
 mod failure;
@@ -29,6 +33,7 @@ mod output;
 mod replacing;
 mod response;
 mod response_reader;
+mod round_keeper;
 mod saving;
 mod server;
 mod serving;
@@ -46,7 +51,7 @@ fn main(rt: HostRuntime) -> ExitCode {
     let mut err = WriterSink::new(rt.stderr());
     let status = match env::args(&rt) {
         Ok(words) => match words.skip(1).collect::<Vec<String>>(rt.alloc()) {
-            Ok(words) => run_command(&rt, &words, is_typed, &mut input, &mut out, &mut err),
+            Ok(words) => run_command(&rt, &rt, &words, is_typed, &mut input, &mut out, &mut err),
             Err(_) => report(Stop::Memory, &mut err),
         },
         Err(error) if error.kind() == ErrorKind::OutOfMemory => report(Stop::Memory, &mut err),

@@ -4,16 +4,22 @@ ghost use Rattle.grove.specs.Answers.{printed, status_of, IsStopped};
 
 use crate::answer::{Answer, Stop};
 use crate::failure::Failure;
+use crate::round_keeper::{KeptFile, RoundKeeper};
 use grove_base::Hint;
 use grove_serve::{Host, serve};
 use grove_session::{DeviceFault, Sink, write_whole};
 use std::alloc::Global;
+use std::net::{Net, TcpListener, TcpStream};
 
 /// Prints the answer, and gives its status. What a port is listened on for ends only where a device fails.
-pub fn print<R: Host, O: Sink>(rt: &R, answer: Answer, out: &mut O) -> Result<u8, Stop>
-    ensures printed { IfOk result (λ status. (status ≡ status_of answer)
-        × Appends (O.contents out.old) (O.contents out.new) (printed answer)) }
-    ensures stopped { OnErr result (IsStopped answer (O.has_failed out.new) (O.contents out.old) (O.contents out.new)) }
+pub fn print<R: Host + Net<Listener = TcpListener, Stream = TcpStream>, O: Sink>(
+    rt: &R,
+    answer: Answer<'_>,
+    out: &mut O,
+) -> Result<u8, Stop>
+    ensures printed { IfOk result (λ status. (status ≡ status_of answer.entry)
+        × Appends (O.contents out.old) (O.contents out.new) (printed answer.entry)) }
+    ensures stopped { OnErr result (IsStopped answer.entry (O.has_failed out.new) (O.contents out.old) (O.contents out.new)) }
     ensures few { IfOk result (λ status. status ≤ 1) }
 {
     match answer {
@@ -27,9 +33,16 @@ pub fn print<R: Host, O: Sink>(rt: &R, answer: Answer, out: &mut O) -> Result<u8
         }
         Answer::Listen { line, service } => {
             tell(&line, out)?;
-            serve(rt, service);
-            Err(Failure::Accept.stop())
+            Err(stop_of(serve(rt, service)))
         }
+    }
+}
+
+/// Why connections are served no more, where this kept the rounds, or there was no thread to look after that.
+fn stop_of(keeper: Option<RoundKeeper<KeptFile<'_>>>) -> Stop {
+    match keeper {
+        Some(keeper) => keeper.failure().unwrap_or(Failure::Accept).stop(),
+        None => Stop::Memory,
     }
 }
 

@@ -46,7 +46,7 @@ fn write_synced<R: Files>(rt: &R, name: &str, bytes: &[u8]) -> io::Result<()> {
 }
 
 /// The folder of a file.
-fn folder_of(name: &str) -> &str {
+pub fn folder_of(name: &str) -> &str {
     match name.rsplit_once('/') {
         Some(("", _file)) => "/",
         Some((folder, _file)) => folder,

@@ -1,15 +1,18 @@
-ghost use Rattle.std.specs.Prelude.{◌≡◌, ◌≤◌, Ok, true, is_ok, IfOk, IfErr, IfSome, OnOk, string_bytes};
+ghost use Rattle.std.specs.Prelude.{◌≡◌, ◌≤◌, ℤ, List, Result, Ok, true, is_ok, IfOk, IfErr, IfSome, OnOk, string_bytes};
 ghost use Rattle.serde_json.specs.View.{view};
+ghost use Rattle.grove_tree.specs.Trees.{Rows};
 ghost use Rattle.grove_wire.specs.Reading.{tree_in};
+ghost use Rattle.grove_wire.specs.declared.fault.WireFault.{WireFault};
 ghost use Rattle.grove_words.specs.declared.order.Command.TheVariants.{Serve, Page};
 ghost use Rattle.grove_answer.specs.Outcomes.{ThenSays};
 ghost use Rattle.grove_answer.specs.Says.{refusal_outcome};
-ghost use Rattle.grove.specs.Answers.{IsAnswerTo};
+ghost use Rattle.grove.specs.Answers.{IsAnswerTo, IsListening, Tells};
 ghost use Rattle.grove.specs.Lines.{address_text, listening_line, place_lines, IsPortFor, NamesPlace};
-ghost use Rattle.grove.specs.Outcomes.{IsServed};
+ghost use Rattle.grove.specs.Outcomes.{IsResumed, IsServed};
 
 use crate::answer::{Answer, Stop};
-use crate::answering::refused;
+use crate::answering::{data_refused, refused};
+use crate::data_opening::{Keeping, NoData, ServedStore, in_file, in_memory};
 use crate::failure::Failure;
 use grove_answer::{Refusal, or_refuse};
 use grove_serve::{Door, Host, LogForm, Manner, MemoryFile, Patience, Service, Talk};
@@ -27,26 +30,86 @@ const SLOTS: u32 = 16;
 
 /// A service with the document's tree and records, which listens already, or why there is none.
 pub fn serve_document<
+    'd,
     R: Host + Files<File = File> + Net<Listener = TcpListener, Stream = TcpStream>,
->(rt: &R, document: &Value, serving: &Serving<'_>, talk: Talk) -> Result<Answer, Stop>
+>(
+    rt: &R,
+    keeping: Keeping<'d>,
+    document: &Value,
+    serving: &Serving<'_>,
+    talk: Talk,
+) -> Result<Answer<'d>, Stop>
     ensures lines { IfOk result (IsAnswerTo (Serve serving.now) (Ok (view document.now))) }
     ensures requests { IfOk result (IsAnswerTo (Page serving.now) (Ok (view document.now))) }
 {
     let alloc = rt.alloc();
     match open_store(alloc, document, serving.workers) {
-        Ok(store) => {
-            let manner = manner_of(rt, alloc, serving, talk)?;
-            let Doors { door, http, line } = open_doors(rt, alloc, serving, talk)?;
-            let service = Service {
-                store,
-                door,
-                http,
-                manner,
-            };
-            Ok(Answer::Listen { line, service })
-        }
+        Ok(store) => serve_store(rt, keeping, store, serving, talk),
         Err(refusal) => refused(alloc, refusal),
     }
+}
+
+/// A service of a document's store, or of the one that the file of its rounds has.
+#[tactic(auto, using(crate::proofs::Saying::serves_listening, crate::proofs::Saying::serves_kept))]
+fn serve_store<'d, R: Host + Files<File = File> + Net<Listener = TcpListener, Stream = TcpStream>>(
+    rt: &R,
+    keeping: Keeping<'d>,
+    store: Store,
+    serving: &Serving<'_>,
+    talk: Talk,
+) -> Result<Answer<'d>, Stop>
+    ensures { (found : Result (Rows × List ℤ) WireFault) → is_ok found ≡ true
+        → IfOk result (Tells (ThenSays found (IsServed serving.now)) 3) }
+{
+    match serving.data {
+        Some(_) => serve_file(rt, keeping, Some(store), serving, talk),
+        None => listen(rt, in_memory(store), serving, talk),
+    }
+}
+
+/// A service of the store that the file of rounds has, or of the document's.
+#[tactic(auto, using(crate::proofs::Saying::resumes_listening))]
+pub fn serve_file<
+    'd,
+    R: Host + Files<File = File> + Net<Listener = TcpListener, Stream = TcpStream>,
+>(
+    rt: &R,
+    keeping: Keeping<'d>,
+    document: Option<Store>,
+    serving: &Serving<'_>,
+    talk: Talk,
+) -> Result<Answer<'d>, Stop>
+    ensures { IfOk result (Tells (IsResumed serving.now.place) 3) }
+{
+    let alloc = rt.alloc();
+    match in_file(alloc, keeping, document, serving.workers) {
+        Ok(served) => listen(rt, served, serving, talk),
+        Err(NoData::Refused(refusal)) => data_refused(alloc, refusal),
+        Err(NoData::Stopped(why)) => Err(why),
+    }
+}
+
+/// A service of the store, which listens already.
+fn listen<'d, R: Host + Files<File = File> + Net<Listener = TcpListener, Stream = TcpStream>>(
+    rt: &R,
+    served: ServedStore<'d>,
+    serving: &Serving<'_>,
+    talk: Talk,
+) -> Result<Answer<'d>, Stop>
+    ensures { IfOk result (IsListening serving.now.place) }
+{
+    let alloc = rt.alloc();
+    let manner = manner_of(rt, alloc, serving, talk)?;
+    let Doors { door, http, line } = open_doors(rt, alloc, serving, talk)?;
+    let ServedStore { kept, counts } = served;
+    let service = Service {
+        kept,
+        counts,
+        door,
+        http,
+        manner,
+    };
+    Ok(Answer::Listen { line, service })
 }
 
 /// How connections are served.
@@ -91,9 +154,9 @@ fn form_of_log(form: grove_words::LogForm) -> LogForm {
 /// A store of the document's tree and records.
 fn open_store(alloc: Global, document: &Value, workers: Workers) -> Result<Store, Refusal>
     ensures opened { OnOk result (is_ok (tree_in (view document.now)) ≡ true) }
-    ensures refused { (place : Place)
+    ensures refused { (serving : Serving)
         → IfErr result (λ refusal. IfSome (refusal_outcome refusal)
-        (ThenSays (tree_in (view document.now)) (IsServed place))) }
+        (ThenSays (tree_in (view document.now)) (IsServed serving))) }
 {
     let (tree, records) = or_refuse(alloc, read_tree(alloc, document))?;
     match Store::open(alloc, tree, records, workers.number) {

@@ -13,7 +13,11 @@ use serde_json::Value;
 use std::alloc::Global;
 
 /// The answer to the text of a table: a document of its tree, or why there is none.
-pub fn answer_to_table(alloc: Global, text: &Value, adds_parents: bool) -> Result<Answer, Stop>
+pub fn answer_to_table<'d>(
+    alloc: Global,
+    text: &Value,
+    adds_parents: bool,
+) -> Result<Answer<'d>, Stop>
     ensures { IfOk result (IsAnswerTo (Tree adds_parents) (Ok (view text.now))) }
 {
     let made = match text.as_str() {

@@ -95,6 +95,7 @@ impl<'a, R: Files<File = File>> LogFile<'a, R> {
     pub fn open(alloc: Global, rt: &'a R, names: FileNames<'a>) -> io::Result<Opened<'a, R>>
         ensures bytes { IfOk result (λ opened. seen_of (events_of opened.file) ≡ opened.bytes.items) }
         ensures durable { IfOk result (λ opened. Only opened.bytes.items (left_of (events_of opened.file))) }
+        ensures unfailed { IfOk result (λ opened. faults_of (events_of opened.file) ≡ 0) }
     {
         let folder = File::open(rt, names.folder)?;
         let lock = locked(rt, names.lock)?;

@@ -1,14 +1,15 @@
 -- The text of what is counted.
-use Rattle.std.specs.Prelude.{ℕ, List, ◌++◌, flat_map, codes, string_bytes}
+use Rattle.std.specs.Prelude.{ℕ, List, [], ◌++◌, flat_map, codes, string_bytes, Option, None, Some}
 use Rattle.grove_gauge.specs.Expositions.{head_text, histogram_text, labelled_text, maybe_text, single_text}
 use Rattle.grove_gauge.specs.declared.counts.Counts.{Counts}
+use Rattle.grove_gauge.specs.declared.counts.KeptCounts.{KeptCounts}
 use Rattle.grove_gauge.specs.declared.counts.PortCounts.{PortCounts}
 use Rattle.grove_gauge.specs.declared.counts.RefusalCount.{RefusalCount}
 use Rattle.grove_gauge.specs.declared.families.Family.{Family}
 use Rattle.grove_gauge.specs.declared.families.Family.TheVariants.{Started, Memory, Lines, Refused, Rounds, Lists}
 use Rattle.grove_gauge.specs.declared.families.Family.TheVariants.{PlansFound, PlansMade, LinesOfRounds, TimesOfRounds}
 use Rattle.grove_gauge.specs.declared.families.Family.TheVariants.{InUse, Slots, Accepted, FailedAccepts, TurnedAway}
-use Rattle.grove_gauge.specs.declared.families.Family.TheVariants.{Idled, Received, Sent}
+use Rattle.grove_gauge.specs.declared.families.Family.TheVariants.{Idled, Received, Sent, KeptRounds, KeptBytes, Syncs}
 
 -- the lines that were refused, by the name of the error
 abbrev pub refusal_text : RefusalCount → List ℕ
@@ -44,6 +45,11 @@ rounds_text c =
     ++ single_text PlansFound c.plans_found ++ single_text PlansMade c.plans_made
     ++ histogram_text LinesOfRounds c.lines_of_rounds ++ histogram_text TimesOfRounds c.times_of_rounds
 
+-- the file that rounds are kept in, if they are
+abbrev pub kept_text : Option KeptCounts → List ℕ
+kept_text None = []
+kept_text (Some k) = single_text KeptRounds k.rounds ++ single_text KeptBytes k.bytes ++ histogram_text Syncs k.syncs
+
 -- the text of all that is counted
 abbrev pub counts_text : Counts → List ℕ
-counts_text c = lines_text c ++ rounds_text c ++ ports_text c.tcp c.http
+counts_text c = lines_text c ++ rounds_text c ++ kept_text c.kept ++ ports_text c.tcp c.http

@@ -5,6 +5,7 @@ use Rattle.grove_gauge.specs.declared.families.Family.TheVariants.{Started, Memo
 use Rattle.grove_gauge.specs.declared.families.Family.TheVariants.{PlansFound, PlansMade, LinesOfRounds, TimesOfRounds}
 use Rattle.grove_gauge.specs.declared.families.Family.TheVariants.{InUse, Slots, Accepted, FailedAccepts, TurnedAway}
 use Rattle.grove_gauge.specs.declared.families.Family.TheVariants.{Idled, Received, Sent, NodeWaits, NodeWeight}
+use Rattle.grove_gauge.specs.declared.families.Family.TheVariants.{KeptRounds, KeptBytes, Syncs}
 
 pub record Row : Type 0 where
   pub name : List ℕ
@@ -33,6 +34,11 @@ row_of LinesOfRounds =
     row (codes "grove_round_lines") (codes "histogram") (codes "Lines that were answered together at the store.")
 row_of TimesOfRounds = row (codes "grove_round_duration_seconds") (codes "histogram")
     (codes "How long the store took to answer lines together.")
+row_of KeptRounds =
+    row (codes "grove_data_rounds") (codes "gauge") (codes "Rounds of the store that the file of --data has.")
+row_of KeptBytes = row (codes "grove_data_bytes") (codes "gauge") (codes "How many bytes the file of --data has.")
+row_of Syncs = row (codes "grove_data_sync_duration_seconds") (codes "histogram")
+    (codes "How long it took until what changed was on the disk.")
 row_of InUse = row (codes "grove_connections") (codes "gauge") (codes "Connections that have a slot, by protocol.")
 row_of Slots = row (codes "grove_connection_slots") (codes "gauge")
     (codes "Connections that may have a slot at once, by protocol.")

@@ -1,6 +1,6 @@
 ghost use Rattle.std.specs.Prelude.{◌≡◌, ◌++◌, OnOk, codes};
 ghost use Rattle.grove_gauge.specs.Counts.{by_protocol_text, counts_text, lines_text, ports_text};
-ghost use Rattle.grove_gauge.specs.Counts.{refusals_text, rounds_text};
+ghost use Rattle.grove_gauge.specs.Counts.{kept_text, refusals_text, rounds_text};
 
 use crate::{Buckets, Exposition, Family, Label};
 use grove_base::NoMemory;
@@ -23,6 +23,8 @@ pub struct Counts<'a> {
     pub plans_made: u64,
     pub lines_of_rounds: Buckets,
     pub times_of_rounds: Buckets,
+    /// What is counted of the file that rounds are kept in, if they are.
+    pub kept: Option<KeptCounts>,
     pub tcp: PortCounts,
     pub http: PortCounts,
 }
@@ -32,6 +34,16 @@ pub struct Counts<'a> {
 pub struct RefusalCount {
     pub name: String,
     pub lines: u64,
+}
+
+/// What is counted of the file that rounds are kept in.
+#[derive(Clone, Copy)]
+pub struct KeptCounts {
+    /// The store's count of rounds as it was kept last.
+    pub rounds: u64,
+    pub bytes: u64,
+    /// How long each sync of the file took.
+    pub syncs: Buckets,
 }
 
 /// What is counted of the connections of a port.
@@ -57,6 +69,7 @@ pub fn write_counts(text: &mut Exposition, counts: &Counts<'_>) -> Result<(), No
 {
     write_lines(text, counts)?;
     write_rounds(text, counts)?;
+    write_kept(text, counts.kept)?;
     write_ports(text, counts.tcp, counts.http)
 }
 
@@ -80,6 +93,18 @@ fn write_rounds(text: &mut Exposition, counts: &Counts<'_>) -> Result<(), NoMemo
     text.single(Family::PlansMade, counts.plans_made)?;
     text.histogram(Family::LinesOfRounds, &counts.lines_of_rounds)?;
     text.histogram(Family::TimesOfRounds, &counts.times_of_rounds)
+}
+
+/// The file that rounds are kept in, if they are.
+fn write_kept(text: &mut Exposition, kept: Option<KeptCounts>) -> Result<(), NoMemory>
+    ensures { OnOk result (text.new ≡ text.old ++ kept_text kept) }
+{
+    let Some(kept) = kept else {
+        return Ok(());
+    };
+    text.single(Family::KeptRounds, kept.rounds)?;
+    text.single(Family::KeptBytes, kept.bytes)?;
+    text.histogram(Family::Syncs, &kept.syncs)
 }
 
 /// The lines that were refused, by name.

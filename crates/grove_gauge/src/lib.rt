@@ -3,7 +3,7 @@
 #![tactic(auto)]
 
 pub use buckets::{Buckets, MOST_BUCKETS};
-pub use counts::{Counts, PortCounts, RefusalCount, write_counts};
+pub use counts::{Counts, KeptCounts, PortCounts, RefusalCount, write_counts};
 pub use exposition::{Exposition, Label};
 pub use families::Family;
 pub use minute::{Minute, RoundTimes, Tally};

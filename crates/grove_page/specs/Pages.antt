@@ -10,7 +10,7 @@ use Rattle.http_server.specs.declared.state.Config.{Config}
 use Rattle.http_server.specs.Response.{IsResponse, fields_of}
 use Rattle.http_server.specs.History.{History, IsServed}
 use Rattle.grove_session.specs.declared.session_fault.SessionFault.{SessionFault}
-use Rattle.grove_session.specs.declared.session_fault.SessionFault.TheVariants.{Read, Write, Memory, Turns, Foreign}
+use Rattle.grove_session.specs.declared.session_fault.SessionFault.TheVariants.{Read, Write, Memory, Turns, Foreign, Unkept}
 use Rattle.grove_session.specs.Sessions.{Lawful, SessionEnds}
 use Rattle.grove_wire.specs.Documents.{document_text}
 use Rattle.grove_store.specs.StoreStates.{StoreState}
@@ -66,10 +66,12 @@ abbrev pub ends_refused : Result ℕ SessionFault → Told → Bool
 ends_refused (Ok count) told = (count == 1) && not (is_accepted told)
 ends_refused (Err fault) told = false
 
--- the replies to all lines; those before one that found no memory or a foreign answer; or none if they are too long
+-- the replies to all lines; those before one that found no memory or a foreign answer or isn't kept; or none if they
+-- are too long
 abbrev pub TellsSession : Result ℕ SessionFault → List ℕ → Response → Type 0
 TellsSession (Ok count) out r = IsResponse (if is_refused (Ok count) out then 400 else 200) json out r
 TellsSession (Err Memory) out r = IsResponse 503 json (out ++ error_line (codes "memory")) r
+TellsSession (Err Unkept) out r = IsResponse 503 json (out ++ error_line (codes "unkept")) r
 TellsSession (Err Foreign) out r = IsResponse 500 json (out ++ error_line (codes "foreign")) r
 TellsSession (Err (Write n)) out r = IsResponse 500 json (error_line (codes "replies")) r
 TellsSession (Err Read) out r = IsResponse 500 json (out ++ error_line (codes "device")) r
@@ -120,10 +122,14 @@ TakesBody true before body r =
 abbrev pub LacksMemory : Response → Type 0
 LacksMemory r = IsResponse 503 json (error_line (codes "memory")) r
 
--- the document of a store to which lawful rounds lead from the opening one; or that there is no memory for it
+-- no store is told, since there is no memory for it, or since what the last round left couldn't be kept
+abbrev pub TellsNone : Response → Type 0
+TellsNone r = LacksMemory r ⊎ IsResponse 503 json (error_line (codes "unkept")) r
+
+-- the document of a store to which lawful rounds lead from the opening one; or none
 abbrev pub TellsDocument : StoreState → Response → Type 0
 TellsDocument opening r = ((store : StoreState) × Led opening store
-    × IsResponse 200 json (document_text store.rows store.records ++ 10 ∷ []) r) ⊎ LacksMemory r
+    × IsResponse 200 json (document_text store.rows store.records ++ 10 ∷ []) r) ⊎ TellsNone r
 
 -- what is counted of a server, of which no clause says more, or that there is no memory for it
 abbrev pub TellsMetrics : Response → Type 0
@@ -139,14 +145,19 @@ TellsPart store None r = IsResponse 400 json (error_line (codes "no-path")) r
 TellsPart store (Some part) r =
     IsResponse 200 json (line_of_nodes store.rows store.records store.waits store.rounds part) r
 
--- of such a store what the query asks; or that it asks nothing, or that there is no memory for it
+-- of such a store what the query asks; or that it asks nothing; or none
 abbrev pub AnswersQuery : List ℕ → StoreState → Response → Type 0
 AnswersQuery query opening r = ((asked : NodesQuery) × IsRead query asked
     × ((store : StoreState) × Led opening store × TellsPart store (part_of store.rows asked.below) r))
     ⊎ ((((asked : NodesQuery) → IsRead query asked → ⊥) × IsResponse 400 json (error_line (codes "query")) r)
-    ⊎ LacksMemory r)
+    ⊎ TellsNone r)
 
 -- ---- requests
+
+-- lines are answered, or they aren't any more
+abbrev pub TellsHealth : Response → Type 0
+TellsHealth r = IsResponse 200 json (codes "{\"status\":\"ok\"}\n") r
+    ⊎ IsResponse 503 json (error_line (codes "unkept")) r
 
 abbrev pub IsReplyTo : PageState → Option (List ℕ) → List ℕ → Route → Response → Type 0
 IsReplyTo state query body Page r = IsResponse 200 html state.page r
@@ -154,7 +165,7 @@ IsReplyTo state query body Lines r =
     TakesBody (nat_lt 65536 (length body)) (caller (state.hints || asks_for_hints query) state.opening) body r
 IsReplyTo state query body Document r = TellsDocument state.opening r
 IsReplyTo state query body Nodes r = AnswersQuery (unwrap_or query []) state.opening r
-IsReplyTo state query body Health r = IsResponse 200 json (codes "{\"status\":\"ok\"}\n") r
+IsReplyTo state query body Health r = TellsHealth r
 IsReplyTo state query body Metrics r = TellsMetrics r
 IsReplyTo state query body OnlyLook r =
     IsResponse 405 ((codes "allow", codes "GET, HEAD") ∷ json) (error_line (codes "method")) r

@@ -1,6 +1,6 @@
 use crate::{Front, HintedVisit, RepliesSink, Visited, visit};
-use grove_desk::{Awaited, Desk, Opening};
-use grove_store::Store;
+use grove_desk::{Awaited, Desk, DeskFault, Opening};
+use grove_store::{Keeper, Store};
 use grove_tree::NoMemory;
 use std::alloc::AllocGlobal;
 use std::sync::Wait;
@@ -10,7 +10,8 @@ use std::time::{Clock, Duration};
 /// For so many seconds a round is waited for.
 pub const LONGEST_WAIT: u64 = 30;
 
-impl<B: Opening, R: Threads + Wait + Clock + Sync + AllocGlobal> Front<R> for Desk<B> {
+impl<B: Opening, K: Keeper + Drop, R: Threads + Wait + Clock + Sync + AllocGlobal> Front<R>
+    for Desk<B, K> {
     ghost use Rattle.std.specs.Thread.{IsSync};
 
     ghost opening = { λ desk. desk.opening };
@@ -23,7 +24,7 @@ impl<B: Opening, R: Threads + Wait + Clock + Sync + AllocGlobal> Front<R> for De
         Visited::new(ended, visitor.told())
     }
 
-    fn snapshot(&self, rt: &R) -> Result<Store, NoMemory> {
+    fn snapshot(&self, rt: &R) -> Result<Store, DeskFault> {
         Desk::snapshot(self, rt, rt.alloc())
     }
 
@@ -32,8 +33,12 @@ impl<B: Opening, R: Threads + Wait + Clock + Sync + AllocGlobal> Front<R> for De
         Ok(String::new(rt.alloc()))
     }
 
-    fn snapshot_after(&self, rt: &R, after: u64) -> Result<Awaited, NoMemory> {
+    fn snapshot_after(&self, rt: &R, after: u64) -> Result<Awaited, DeskFault> {
         let longest = Duration::from_secs(LONGEST_WAIT);
         Desk::snapshot_after(self, rt, rt.alloc(), after, longest)
+    }
+
+    fn is_sound(&self, rt: &R) -> bool {
+        !self.has_failed(rt)
     }
 }

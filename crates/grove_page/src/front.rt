@@ -6,7 +6,7 @@ ghost use Rattle.grove_page.specs.Hints.{caller};
 ghost use Rattle.grove_page.specs.Pages.{VisitsDesk, ends_refused, is_refused};
 
 use crate::RepliesSink;
-use grove_desk::{Awaited, Told};
+use grove_desk::{Awaited, DeskFault, Told};
 use grove_session::{SessionFault, Sink};
 use grove_store::Store;
 use grove_tree::NoMemory;
@@ -50,7 +50,7 @@ pub trait Front<R> {
             × (result.is_refused ≡ is_refused result.ended out) };
 
     /// A copy of the store of one moment.
-    fn snapshot(&self, rt: &R) -> Result<Store, NoMemory>
+    fn snapshot(&self, rt: &R) -> Result<Store, DeskFault>
         requires asks { asks }
         ensures { IfOk result (Led (opening self.now)) };
 
@@ -59,9 +59,13 @@ pub trait Front<R> {
         requires asks { asks };
 
     /// A copy of the store once a round later than this one is done, or as it stands if that takes too long.
-    fn snapshot_after(&self, rt: &R, after: u64) -> Result<Awaited, NoMemory>
+    fn snapshot_after(&self, rt: &R, after: u64) -> Result<Awaited, DeskFault>
         requires asks { asks }
         ensures { IfOk result (TellsLater (opening self.now) after) };
+
+    /// Whether lines are still answered: they aren't once what a round left couldn't be kept.
+    fn is_sound(&self, rt: &R) -> bool
+        requires asks { asks };
 
     /// Learns that a request has come whole.
     fn note_request(&self) {}

@@ -7,7 +7,7 @@ use crate::hints::{hint_of_refusal, hinted_reply};
 use grove_base::{Hint, NoMemory};
 use grove_desk::{Desk, Opening, RoundWatch, Told, Unwatched, Visit};
 use grove_session::{AnswerFault, Answers};
-use grove_store::Refusal;
+use grove_store::{InMemory, Keeper, Refusal};
 use grove_tree::Tree;
 use std::alloc::{AllocGlobal, Global};
 use std::marker::Model;
@@ -16,8 +16,8 @@ use std::thread::Threads;
 
 /// A visitor of a desk, whose refusals have hints if it asks for them.
 #[derive(Drop)]
-pub struct HintedVisit<'a, B: Opening, W = Unwatched> {
-    visit: Visit<'a, B, W>,
+pub struct HintedVisit<'a, B: Opening, K: Keeper = InMemory, W = Unwatched> {
+    visit: Visit<'a, B, K, W>,
     hints: bool,
     /// The desk's tree, whose names hints go by.
     tree: Option<&'a Tree>,
@@ -25,7 +25,7 @@ pub struct HintedVisit<'a, B: Opening, W = Unwatched> {
     hint: Option<Hint>,
 }
 
-impl<'a, B: Opening, W> Model for HintedVisit<'a, B, W> {
+impl<'a, B: Opening, K: Keeper, W> Model for HintedVisit<'a, B, K, W> {
     ghost use Rattle.grove_page.specs.Hints.{CallerState};
 
     ghost Value = { CallerState };
@@ -33,18 +33,18 @@ impl<'a, B: Opening, W> Model for HintedVisit<'a, B, W> {
     ghost view = { λ hinted. record { visit = hinted.visit; hints = hinted.hints } };
 }
 
-impl<'a, B: Opening> HintedVisit<'a, B> {
+impl<'a, B: Opening, K: Keeper> HintedVisit<'a, B, K> {
     /// A visitor who has seen nothing yet.
-    pub fn new(desk: &'a Desk<B>, hints: bool, tree: Option<&'a Tree>) -> Self
+    pub fn new(desk: &'a Desk<B, K>, hints: bool, tree: Option<&'a Tree>) -> Self
         ensures { result ≡ caller hints desk.entry.now.opening }
     {
         HintedVisit::watched(desk, &Unwatched, hints, tree)
     }
 }
 
-impl<'a, B: Opening, W> HintedVisit<'a, B, W> {
+impl<'a, B: Opening, K: Keeper, W> HintedVisit<'a, B, K, W> {
     /// A visitor who has seen nothing yet, and whose rounds are watched.
-    pub fn watched(desk: &'a Desk<B>, watch: &'a W, hints: bool, tree: Option<&'a Tree>) -> Self
+    pub fn watched(desk: &'a Desk<B, K>, watch: &'a W, hints: bool, tree: Option<&'a Tree>) -> Self
         ensures { result ≡ caller hints desk.entry.now.opening }
     {
         HintedVisit {
@@ -78,8 +78,13 @@ impl<'a, B: Opening, W> HintedVisit<'a, B, W> {
     }
 }
 
-impl<'a, B: Opening, R: Threads + Wait + Sync + AllocGlobal, W: RoundWatch<R>> Answers<R>
-    for HintedVisit<'a, B, W> {
+impl<
+    'a,
+    B: Opening,
+    K: Keeper + Drop,
+    R: Threads + Wait + Sync + AllocGlobal,
+    W: RoundWatch<R>,
+> Answers<R> for HintedVisit<'a, B, K, W> {
     ghost use Rattle.std.specs.Prelude.{true};
     ghost use Rattle.std.specs.Thread.{IsSync};
     ghost use Rattle.grove_page.specs.Hints.{IsCallerReply};

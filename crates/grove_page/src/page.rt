@@ -295,6 +295,7 @@ const FAULTS = {
   "shape": "something isn't of the form asked for; a number may have 64 bits",
   "long-line": "there is more of it than a line may have, 1,048,576 bytes",
   "memory": "the server has no memory for it",
+  "unkept": "the server couldn't keep it in its file, and ends",
   "rounds": "the store can count no further round",
 };
 
@@ -361,6 +362,8 @@ function bad(text) {
 
 /** How many rounds the last look found, if the server counts them, and when it was. */
 let rounds, lookedAt;
+/** What is said of where rounds are kept. */
+let keeps = "";
 /** How many looks have begun, and the last one of those that were shown. */
 let begun = 0, latest = 0;
 /** Whether the page asks by itself, and what ends such a look. */
@@ -377,11 +380,18 @@ async function look(query = "", how = {}) {
     if (number < latest) return;
     latest = number;
     if (found.error) throw new Refused(faultText(found));
+    if (rounds === undefined || isOfAnother(found.nodes, found.round)) await askWhetherKept();
     takeLook(found);
     write(byId("trouble"), "");
   } catch (error) {
     if (isFollowing || !how.signal) write(byId("trouble"), error.message);
   }
+}
+
+/** Whether rounds are kept in a file, by what the server counts. */
+async function askWhetherKept() {
+  const counts = await answerOf("/metrics", {}).catch(() => "");
+  keeps = /^grove_data_rounds /m.test(counts) ? ", kept in a file" : "";
 }
 
 function takeLook({ nodes, round }) {
@@ -394,7 +404,7 @@ function takeLook({ nodes, round }) {
   [rounds, lookedAt] = [round, when];
   takeNodes(nodes, isAnew);
   const told = rounds === undefined ? "" : `, ${counted(rounds, "round")} done (each runs one batch or several)`;
-  byId("state").textContent = `${counted(tree.length, "node")}${told}, as of ${when}`;
+  byId("state").textContent = `${counted(tree.length, "node")}${told}${keeps}, as of ${when}`;
 }
 
 /** Was the server started anew since the last look? A server's tree doesn't change, and its rounds only rise. */

@@ -4,7 +4,7 @@ ghost use Rattle.http_uri.specs.Uri.{uri_path, uri_query};
 ghost use Rattle.http_server.specs.Response.{IsBlank, IsResponse};
 ghost use Rattle.grove_page.specs.Pages.{json, error_line, has_many_lines, is_refused};
 ghost use Rattle.grove_page.specs.Pages.{IsReplyTo, AnswersBody, TakesLines, TakesBody, TellsDocument, TellsSession};
-ghost use Rattle.grove_page.specs.Pages.{AnswersQuery, TellsPart, LacksMemory, TellsMetrics};
+ghost use Rattle.grove_page.specs.Pages.{AnswersQuery, TellsPart, TellsNone, TellsMetrics, TellsHealth};
 ghost use Rattle.grove_page.specs.Routes.{route_of};
 ghost use Rattle.grove_page.specs.NodeLines.{part_of};
 ghost use Rattle.grove_store.specs.StoreStates.{StoreState};
@@ -20,7 +20,7 @@ use crate::replies::{fill_allowed, fill_json, fill_metrics, fill_page, fill_whol
 use crate::route::{Route, asks_for_hints, route_for};
 use crate::{Front, Paths, RepliesSink, Visited};
 use bytes::{BufMut, Bytes};
-use grove_desk::Awaited;
+use grove_desk::{Awaited, DeskFault};
 use grove_session::SessionFault;
 use grove_store::Store;
 use grove_tree::NoMemory;
@@ -37,7 +37,11 @@ pub const MOST_KEPT: usize = 65_536;
 
 const FAILED: StatusCode = StatusCode::INTERNAL_SERVER_ERROR;
 
+const UNAVAILABLE: StatusCode = StatusCode::SERVICE_UNAVAILABLE;
+
 const NO_MEMORY: &[u8] = b"{\"error\":\"memory\"}\n";
+
+const UNKEPT: &[u8] = b"{\"error\":\"unkept\"}\n";
 
 const NO_ROOM: &[u8] = b"{\"error\":\"replies\"}\n";
 
@@ -122,7 +126,7 @@ impl<'a, R: AllocGlobal, F: Front<R>> PageService<'a, R, F> {
             }
             Route::Document => self.tell_document(response),
             Route::Nodes => self.tell_nodes(request.uri().query().unwrap_or(""), response),
-            Route::Health => fill_json(response, StatusCode::OK, HEALTHY),
+            Route::Health => self.tell_health(response),
             Route::Metrics => self.tell_metrics(asks_for_nodes(request.uri().query()), response),
             Route::OnlyLook => fill_allowed(response, "GET, HEAD"),
             Route::LookOrSend => fill_allowed(response, "GET, HEAD, POST"),
@@ -182,7 +186,7 @@ impl<'a, R: AllocGlobal, F: Front<R>> PageService<'a, R, F> {
                 let visited = self.front.answer(self.rt, lines, hints, &mut sink);
                 fill_replies(response, visited, sink.bytes())
             }
-            Err(NoMemory) => fill_json(response, StatusCode::SERVICE_UNAVAILABLE, NO_MEMORY),
+            Err(NoMemory) => fill_json(response, UNAVAILABLE, NO_MEMORY),
         }
     }
 
@@ -193,7 +197,7 @@ impl<'a, R: AllocGlobal, F: Front<R>> PageService<'a, R, F> {
     {
         match self.front.snapshot(self.rt) {
             Ok(store) => fill_line(response, document_line(self.rt.alloc(), &store)),
-            Err(NoMemory) => fill_json(response, StatusCode::SERVICE_UNAVAILABLE, NO_MEMORY),
+            Err(fault) => fill_none(response, fault),
         }
     }
 
@@ -205,9 +209,7 @@ impl<'a, R: AllocGlobal, F: Front<R>> PageService<'a, R, F> {
         match read_query(self.rt.alloc(), query.as_bytes()) {
             Ok(asked) => self.tell_asked(&asked, response),
             Err(QueryFault::Bad) => fill_json(response, StatusCode::BAD_REQUEST, BAD_QUERY),
-            Err(QueryFault::Memory) => {
-                fill_json(response, StatusCode::SERVICE_UNAVAILABLE, NO_MEMORY)
-            }
+            Err(QueryFault::Memory) => fill_json(response, UNAVAILABLE, NO_MEMORY),
         }
     }
 
@@ -215,16 +217,16 @@ impl<'a, R: AllocGlobal, F: Front<R>> PageService<'a, R, F> {
     fn tell_asked(&self, asked: &NodesQuery, response: &mut Response) -> Result<(), AllocError>
         requires { IsBlank response.old }
         ensures { OnOk result (((store : StoreState) × Led self.now.opening store
-            × TellsPart store (part_of store.rows asked.now.below) response.new) ⊎ LacksMemory response.new) }
+            × TellsPart store (part_of store.rows asked.now.below) response.new) ⊎ TellsNone response.new) }
     {
         match self.store_for(asked) {
             Ok(store) => self.tell_part(&store, asked, response),
-            Err(NoMemory) => fill_json(response, StatusCode::SERVICE_UNAVAILABLE, NO_MEMORY),
+            Err(fault) => fill_none(response, fault),
         }
     }
 
     /// The store, once the round is done that is waited for.
-    fn store_for(&self, asked: &NodesQuery) -> Result<Store, NoMemory>
+    fn store_for(&self, asked: &NodesQuery) -> Result<Store, DeskFault>
         ensures { IfOk result (Led self.now.opening) }
     {
         match (asked.after, &asked.below) {
@@ -235,7 +237,7 @@ impl<'a, R: AllocGlobal, F: Front<R>> PageService<'a, R, F> {
     }
 
     /// The store once a later round is done. If no node has the path, nothing is waited for.
-    fn store_with(&self, after: u64, path: &str) -> Result<Store, NoMemory>
+    fn store_with(&self, after: u64, path: &str) -> Result<Store, DeskFault>
         ensures { IfOk result (Led self.now.opening) }
     {
         let store = self.front.snapshot(self.rt)?;
@@ -246,7 +248,7 @@ impl<'a, R: AllocGlobal, F: Front<R>> PageService<'a, R, F> {
     }
 
     /// The store once a later round is done, or as it stands if that takes too long.
-    fn store_after(&self, after: u64) -> Result<Store, NoMemory>
+    fn store_after(&self, after: u64) -> Result<Store, DeskFault>
         ensures { IfOk result (Led self.now.opening) }
     {
         Ok(store_of(self.front.snapshot_after(self.rt, after)?))
@@ -261,7 +263,7 @@ impl<'a, R: AllocGlobal, F: Front<R>> PageService<'a, R, F> {
     ) -> Result<(), AllocError>
         requires { IsBlank response.old }
         ensures { OnOk result (TellsPart store.now (part_of store.now.rows asked.now.below) response.new
-            ⊎ LacksMemory response.new) }
+            ⊎ TellsNone response.new) }
     {
         match part_for(store.tree(), asked) {
             Some(part) => {
@@ -272,6 +274,18 @@ impl<'a, R: AllocGlobal, F: Front<R>> PageService<'a, R, F> {
         }
     }
 
+    /// Whether lines are answered.
+    fn tell_health(&self, response: &mut Response) -> Result<(), AllocError>
+        requires { IsBlank response.old }
+        ensures { OnOk result (TellsHealth response.new) }
+    {
+        if self.front.is_sound(self.rt) {
+            fill_json(response, StatusCode::OK, HEALTHY)
+        } else {
+            fill_json(response, UNAVAILABLE, UNKEPT)
+        }
+    }
+
     /// What is counted of the server.
     fn tell_metrics(&self, by_node: bool, response: &mut Response) -> Result<(), AllocError>
         requires { IsBlank response.old }
@@ -279,7 +293,7 @@ impl<'a, R: AllocGlobal, F: Front<R>> PageService<'a, R, F> {
     {
         match self.front.metrics(self.rt, by_node) {
             Ok(text) => fill_metrics(response, &text),
-            Err(NoMemory) => fill_json(response, StatusCode::SERVICE_UNAVAILABLE, NO_MEMORY),
+            Err(NoMemory) => fill_json(response, UNAVAILABLE, NO_MEMORY),
         }
     }
 }
@@ -311,6 +325,17 @@ fn count_feeds(lines: &[u8]) -> usize
     lines.iter().filter(|byte| **byte == b'\n').count()
 }
 
+/// That no store is told. No copy of one is foreign.
+fn fill_none(response: &mut Response, fault: DeskFault) -> Result<(), AllocError>
+    requires { IsBlank response.old }
+    ensures { OnOk result (TellsNone response.new) }
+{
+    match fault {
+        DeskFault::Memory | DeskFault::Foreign => fill_json(response, UNAVAILABLE, NO_MEMORY),
+        DeskFault::Unkept => fill_json(response, UNAVAILABLE, UNKEPT),
+    }
+}
+
 /// A line that tells of a store, or that there is no memory for it.
 fn fill_line(response: &mut Response, line: Result<Vec<u8>, NoMemory>) -> Result<(), AllocError>
     requires { IsBlank response.old }
@@ -319,7 +344,7 @@ fn fill_line(response: &mut Response, line: Result<Vec<u8>, NoMemory>) -> Result
 {
     match line {
         Ok(line) => fill_whole(response, line),
-        Err(NoMemory) => fill_json(response, StatusCode::SERVICE_UNAVAILABLE, NO_MEMORY),
+        Err(NoMemory) => fill_json(response, UNAVAILABLE, NO_MEMORY),
     }
 }
 
@@ -332,14 +357,8 @@ fn fill_replies(response: &mut Response, visited: Visited, replies: &[u8]) -> Re
     match visited.ended {
         Ok(_) if visited.is_refused => fill_json(response, StatusCode::BAD_REQUEST, replies),
         Ok(_) => fill_json(response, StatusCode::OK, replies),
-        Err(SessionFault::Memory) => {
-            fill_broken(
-                response,
-                StatusCode::SERVICE_UNAVAILABLE,
-                replies,
-                NO_MEMORY,
-            )
-        }
+        Err(SessionFault::Memory) => fill_broken(response, UNAVAILABLE, replies, NO_MEMORY),
+        Err(SessionFault::Unkept) => fill_broken(response, UNAVAILABLE, replies, UNKEPT),
         Err(SessionFault::Foreign) => fill_broken(response, FAILED, replies, FOREIGN),
         Err(SessionFault::Write(_)) => fill_json(response, FAILED, NO_ROOM),
         Err(SessionFault::Read | SessionFault::Turns) => {

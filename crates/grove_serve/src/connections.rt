@@ -1,21 +1,22 @@
 ghost use Rattle.std.specs.Prelude.{◌≡◌, false};
 
 use crate::busy::turn_away;
+use crate::closing::close_at_failure;
 use crate::event::Event;
 use crate::host::Host;
 use crate::minutes::log_minutes;
 use crate::remedy::Remedy;
-use crate::service::{Door, Service, Talk};
+use crate::service::{Door, KeptStore, Service, Talk};
 use crate::slots::Slots;
 use crate::talking::{Caller, serve_caller};
 use grove_desk::{Desk, Opening};
 use grove_gauge::Ticket;
 use grove_page::Paths;
-use grove_store::Store;
+use grove_store::{Keeper, Store};
 use grove_tree::NoMemory;
 use std::alloc::Global;
 use std::marker::Brand;
-use std::net::SocketAddr;
+use std::net::{Net, SocketAddr, TcpListener, TcpStream};
 use std::{io, thread};
 
 /// After so many failures to accept a connection there is a pause, however soon they pass, so that those which last
@@ -23,27 +24,41 @@ use std::{io, thread};
 const FAILURES: u64 = 64;
 
 /// Serves connections, as many at once as there are slots, until none can be accepted any more and the others have
-/// ended. A connection that there is no descriptor or no memory for waits for it; one that no thread can be started for
-/// is closed.
-pub fn serve<R: Host>(rt: &R, service: Service) {
-    serve_as::<Brand, R>(rt, service);
+/// ended, or until a round couldn't be kept. A connection that there is no descriptor or no memory for waits for it; one
+/// that no thread can be started for is closed. Gives back what kept the rounds; nothing, if there was no thread that is
+/// needed where rounds are kept.
+pub fn serve<R: Host + Net<Listener = TcpListener, Stream = TcpStream>, K: Keeper + Drop + Send>(
+    rt: &R,
+    service: Service<K>,
+) -> Option<K> {
+    serve_as::<Brand, R, K>(rt, service)
 }
 
 /// Serves connections at a desk over the service's store, which keeps no journal.
-fn serve_as<B: Opening + Send + Sync, R: Host>(rt: &R, service: Service)
-    requires store { service.store ≡ B.store }
+fn serve_as<
+    B: Opening + Send + Sync,
+    R: Host + Net<Listener = TcpListener, Stream = TcpStream>,
+    K: Keeper + Drop + Send,
+>(rt: &R, service: Service<K>) -> Option<K>
+    requires store { service.kept ≡ B.store }
     requires kept { B.kept ≡ false }
 {
     let Service {
-        store,
+        kept,
+        counts,
         door,
         http,
         manner,
     } = service;
+    let KeptStore { store, keeper } = kept;
     let paths = paths_of(rt.alloc(), &store).ok();
-    let desk = Desk::<B>::open(rt.alloc(), store, false);
-    let slots = Slots::new(rt, rt.alloc(), &door, http.as_ref(), manner, paths);
-    serve_at(rt, &desk, &slots, &door, http.as_ref());
+    let rounds = store.rounds();
+    let desk = Desk::<B, K>::open(rt.alloc(), store, keeper, false);
+    let slots = Slots::new(rt, rt.alloc(), &door, http.as_ref(), manner, paths, counts);
+    slots.metrics().rounds.raise_to(rounds);
+    let is_served = serve_at(rt, &desk, &slots, &door, http.as_ref());
+    let closed = desk.close(rt.alloc(), &[]).ok()?;
+    if is_served { Some(closed.keeper) } else { None }
 }
 
 /// The paths of the store's nodes, which stay the same.
@@ -51,29 +66,53 @@ fn paths_of(alloc: Global, store: &Store) -> Result<Paths, NoMemory> {
     Paths::new(alloc, store.tree().copy(alloc)?)
 }
 
-/// Serves the connections of the doors at the desk, and logs each minute meanwhile.
-fn serve_at<B: Opening + Send + Sync, R: Host>(
-    rt: &R,
-    desk: &Desk<B>,
-    slots: &Slots,
-    door: &Door,
-    http: Option<&Door>,
-) {
+/// Serves the connections of the doors at the desk, and logs each minute meanwhile. Says whether there were the threads
+/// for it.
+fn serve_at<
+    B: Opening + Send + Sync,
+    R: Host + Net<Listener = TcpListener, Stream = TcpStream>,
+    K: Keeper + Drop + Send,
+>(rt: &R, desk: &Desk<B, K>, slots: &Slots, door: &Door, http: Option<&Door>) -> bool {
     thread::scope(thread::scope_env(), rt, |scope| {
         if slots.log().is_some() {
             let _told = scope.spawn(move || log_minutes(rt, desk, slots));
         }
-        open(rt, desk, slots, door, http);
+        let is_served = open_guarded(rt, desk, slots, door, http);
         if let Some(log) = slots.log() {
             log.close(rt);
         }
-    });
+        is_served
+    })
+}
+
+/// Serves the connections of the doors until they end, or a thread of its own ends them since a round couldn't be kept.
+/// Where rounds are kept and there is no such thread, none is served.
+fn open_guarded<
+    B: Opening + Send + Sync,
+    R: Host + Net<Listener = TcpListener, Stream = TcpStream>,
+    K: Keeper + Drop + Send,
+>(rt: &R, desk: &Desk<B, K>, slots: &Slots, door: &Door, http: Option<&Door>) -> bool {
+    if slots.kept().is_none() {
+        open(rt, desk, slots, door, http);
+        return true;
+    }
+    thread::scope(thread::scope_env(), rt, |scope| {
+        let guarded = scope.spawn(move || close_at_failure(rt, slots, door, http));
+        let is_guarded = guarded.is_ok();
+        if is_guarded {
+            open(rt, desk, slots, door, http);
+        } else {
+            log_event(rt, slots, Event::NoGuard);
+        }
+        slots.streams().close(rt);
+        is_guarded
+    })
 }
 
 /// Serves the connections of both doors, if there are two.
-fn open<B: Opening + Send + Sync, R: Host>(
+fn open<B: Opening + Send + Sync, R: Host, K: Keeper + Drop + Send>(
     rt: &R,
-    desk: &Desk<B>,
+    desk: &Desk<B, K>,
     slots: &Slots,
     door: &Door,
     http: Option<&Door>,
@@ -90,7 +129,12 @@ fn open<B: Opening + Send + Sync, R: Host>(
 }
 
 /// Serves a door's connections, each in its place.
-fn welcome<B: Opening + Send + Sync, R: Host>(rt: &R, desk: &Desk<B>, slots: &Slots, door: &Door) {
+fn welcome<B: Opening + Send + Sync, R: Host, K: Keeper + Drop + Send>(
+    rt: &R,
+    desk: &Desk<B, K>,
+    slots: &Slots,
+    door: &Door,
+) {
     thread::scope(thread::scope_env(), rt, |scope| {
         for _ in rt.forever() {
             match next_caller(rt, slots, door) {
@@ -117,7 +161,7 @@ enum Arrival {
     Caller(Caller, Ticket),
     /// There was no place for it, or it couldn't be accepted.
     Nobody,
-    /// None can be accepted any more.
+    /// None can be accepted any more, or none is to be.
     Never,
 }
 
@@ -134,6 +178,9 @@ fn next_caller<R: Host>(rt: &R, slots: &Slots, door: &Door) -> Arrival {
         Ok(accepted) => accepted,
         Err(error) => return await_remedy(rt, slots, talk, number_of(&error)),
     };
+    if slots.streams().is_closed(rt) {
+        return Arrival::Never;
+    }
     let number = note_arrival(rt, slots, talk, address);
     let ticket = if tells_busy {
         pool.take_free(rt)

@@ -23,6 +23,8 @@ pub enum Ending {
     Turns,
     /// A line was lost among others.
     Foreign,
+    /// What its line left couldn't be kept, or what another one did.
+    Unkept,
     /// The system sets no limit to its time.
     Untimed,
     /// The system gives no random numbers.
@@ -39,6 +41,7 @@ impl Ending {
             Err(SessionFault::Memory) => Ending::Memory,
             Err(SessionFault::Turns) => Ending::Turns,
             Err(SessionFault::Foreign) => Ending::Foreign,
+            Err(SessionFault::Unkept) => Ending::Unkept,
         }
     }
 
@@ -66,6 +69,7 @@ impl Ending {
             Ending::Memory => "memory",
             Ending::Turns => "turns",
             Ending::Foreign => "foreign",
+            Ending::Unkept => "unkept",
             Ending::Untimed => "no-time-limit",
             Ending::Unkeyed => "no-random-numbers",
         }
@@ -86,6 +90,7 @@ impl Ending {
             Ending::Unread | Ending::Unwritten | Ending::Broken => Level::Warn,
             Ending::Turns | Ending::Foreign => Level::Warn,
             Ending::Memory | Ending::Untimed | Ending::Unkeyed => Level::Error,
+            Ending::Unkept => Level::Error,
         }
     }
 }

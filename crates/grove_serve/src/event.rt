@@ -35,6 +35,8 @@ pub enum Event<'a> {
     },
     /// No thread could be started that accepts at the port for HTTP.
     NoHttp,
+    /// No thread could be started that ends the connections once a round couldn't be kept.
+    NoGuard,
     /// There is none of this for the next connection.
     Lacks(Lack),
     /// The next connection couldn't be accepted, for an error of this number; the one after it is waited for.
@@ -80,6 +82,7 @@ impl Event<'_> {
             Event::TurnedAway { .. } => "turned-away",
             Event::NoThread { .. } => "no-thread",
             Event::NoHttp => "no-http",
+            Event::NoGuard => "no-guard",
             Event::Lacks(Lack::Descriptor) => "no-descriptor",
             Event::Lacks(Lack::Memory) => "no-memory",
             Event::NotAccepted { .. } => "not-accepted",
@@ -95,7 +98,7 @@ impl Event<'_> {
             Event::Ended { ending, .. } => ending.level(),
             Event::Refused { .. } | Event::TurnedAway { .. } => Level::Warn,
             Event::NotAccepted { .. } | Event::LeftOut { .. } => Level::Warn,
-            Event::NoThread { .. } | Event::NoHttp => Level::Error,
+            Event::NoThread { .. } | Event::NoHttp | Event::NoGuard => Level::Error,
             Event::Lacks(_) | Event::Stopped { .. } => Level::Error,
         }
     }

@@ -43,10 +43,7 @@ fn write_data<W: fmt::Write>(fields: &mut Fields<'_, W>, event: &Event<'_>) -> f
             fields.number("connection", *connection)?;
             fields.number("line", *line)?;
             fields.text("error", name)?;
-            match hint {
-                Some(hint) => fields.text("hint", hint),
-                None => Ok(()),
-            }
+            fields.optional_text("hint", *hint)
         }
         Event::Ended {
             connection,
@@ -56,21 +53,18 @@ fn write_data<W: fmt::Write>(fields: &mut Fields<'_, W>, event: &Event<'_>) -> f
             fields.number("connection", *connection)?;
             fields.number("lines", *lines)?;
             fields.text("why", ending.name())?;
-            match ending.idle() {
-                Some(seconds) => fields.number("idle_seconds", u64::from(seconds)),
-                None => Ok(()),
-            }
+            fields.optional_number(
+                "idle_seconds",
+                ending.idle().map(|seconds| u64::from(seconds)),
+            )
         }
         Event::TurnedAway { connection } | Event::NoThread { connection } => {
             fields.number("connection", *connection)
         }
-        Event::NoHttp | Event::Lacks(_) => Ok(()),
+        Event::NoHttp | Event::NoGuard | Event::Lacks(_) => Ok(()),
         Event::NotAccepted { talk, error } | Event::Stopped { talk, error } => {
             fields.text("protocol", talk.protocol())?;
-            match error {
-                Some(error) => fields.number("os_error", *error),
-                None => Ok(()),
-            }
+            fields.optional_number("os_error", *error)
         }
         Event::Minute {
             minute,
@@ -91,9 +85,7 @@ fn write_minute<W: fmt::Write>(
     fields.number("refused", minute.refused)?;
     fields.number("connections", connections)?;
     fields.number("rounds", minute.rounds)?;
-    if let Some(waits) = waits {
-        fields.number("waits", waits)?;
-    }
+    fields.optional_number("waits", waits)?;
     if let Some(times) = minute.times {
         fields.seconds("round_median_seconds", times.median)?;
         fields.seconds("round_p99_seconds", times.slowest)?;

@@ -37,6 +37,14 @@ impl<'a, W: fmt::Write> Fields<'a, W> {
         write!(self.f, "{value}")
     }
 
+    /// The number, if there is one.
+    pub fn optional_number(&mut self, name: &str, value: Option<u64>) -> fmt::Result {
+        match value {
+            Some(value) => self.number(name, value),
+            None => Ok(()),
+        }
+    }
+
     pub fn seconds(&mut self, name: &str, value: Seconds) -> fmt::Result {
         self.name(name)?;
         write!(self.f, "{value}")
@@ -48,6 +56,14 @@ impl<'a, W: fmt::Write> Fields<'a, W> {
         match self.form {
             LogForm::Text if is_word(value) => self.f.write_str(value),
             LogForm::Text | LogForm::Json => write!(self.f, "{}", Quoted(value)),
+        }
+    }
+
+    /// The text, if there is one.
+    pub fn optional_text(&mut self, name: &str, value: Option<&str>) -> fmt::Result {
+        match value {
+            Some(value) => self.text(name, value),
+            None => Ok(()),
         }
     }
 

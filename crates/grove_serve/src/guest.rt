@@ -47,6 +47,11 @@ impl<'a> Guest<'a> {
         self.talk
     }
 
+    /// Its number in the log, if there is one.
+    pub fn number(&self) -> u64 {
+        self.number
+    }
+
     /// Notes that a request has come whole.
     pub fn note_request(&self) {
         self.has_come.set(true);

@@ -3,11 +3,13 @@
 #![tactic(auto)]
 
 pub use connections::serve;
+pub use file_counts::FileCounts;
 pub use host::Host;
 pub use memory_file::MemoryFile;
-pub use service::{Door, LogForm, Manner, Patience, Service, Talk};
+pub use service::{Door, KeptStore, LogForm, Manner, Patience, Service, Talk};
 
 mod busy;
+mod closing;
 mod connections;
 mod counted_stream;
 mod counter;
@@ -15,6 +17,7 @@ mod ending;
 mod event;
 mod event_line;
 mod fields;
+mod file_counts;
 mod guest;
 mod histogram;
 mod host;
@@ -29,6 +32,7 @@ mod remedy;
 mod room;
 mod service;
 mod slots;
+mod streams;
 mod talking;
 mod timed_stream;
 mod timed_writer;

@@ -53,6 +53,7 @@ fn write_server<R: Wait>(
         plans_made: plans.misses(),
         lines_of_rounds: metrics.lines_of_rounds.read(),
         times_of_rounds: metrics.times_of_rounds.read(),
+        kept: slots.kept().map(|counts| counts.read()),
         tcp: port_counts(slots, Talk::Lines),
         http: port_counts(slots, Talk::Requests),
     };

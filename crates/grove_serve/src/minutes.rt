@@ -3,10 +3,9 @@ use crate::host::Host;
 use crate::log::Log;
 use crate::service::Talk;
 use crate::slots::Slots;
-use grove_base::NoMemory;
 use grove_desk::{Desk, Opening};
 use grove_gauge::Tally;
-use grove_store::Store;
+use grove_store::{Keeper, Store};
 use std::time::Duration;
 
 /// How many seconds a minute has.
@@ -14,11 +13,15 @@ const MINUTE: u32 = 60;
 
 /// Logs each minute in which lines were answered, and each second what the one before left out, until no more
 /// connections are accepted.
-pub fn log_minutes<B: Opening, R: Host>(rt: &R, desk: &Desk<B>, slots: &Slots) {
+pub fn log_minutes<B: Opening, K: Keeper + Drop, R: Host>(
+    rt: &R,
+    desk: &Desk<B, K>,
+    slots: &Slots,
+) {
     let Some(log) = slots.log() else {
         return;
     };
-    let mut before = Tally::new();
+    let mut before = slots.metrics().tally();
     let mut seconds = 0u32;
     for _ in rt.forever() {
         if log.closes_within(rt, Duration::from_secs(1)) {
@@ -34,9 +37,9 @@ pub fn log_minutes<B: Opening, R: Host>(rt: &R, desk: &Desk<B>, slots: &Slots) {
 }
 
 /// Logs the minute that is over, if lines were answered in it, and gives what is counted before the next one.
-fn log_minute<B: Opening, R: Host>(
+fn log_minute<B: Opening, K: Keeper + Drop, R: Host>(
     rt: &R,
-    desk: &Desk<B>,
+    desk: &Desk<B, K>,
     slots: &Slots,
     log: &Log,
     before: Tally,
@@ -56,12 +59,10 @@ fn log_minute<B: Opening, R: Host>(
     now
 }
 
-/// The waits of all nodes, if there is memory to look.
-fn waits_at<B: Opening, R: Host>(rt: &R, desk: &Desk<B>) -> Option<u64> {
-    match desk.snapshot(rt, rt.alloc()) {
-        Ok(store) => Some(waits_of(&store)),
-        Err(NoMemory) => None,
-    }
+/// The waits of all nodes, if there is memory to look, and the store is kept.
+fn waits_at<B: Opening, K: Keeper + Drop, R: Host>(rt: &R, desk: &Desk<B, K>) -> Option<u64> {
+    let store = desk.snapshot(rt, rt.alloc()).ok()?;
+    Some(waits_of(&store))
 }
 
 /// The waits of all nodes of a store.

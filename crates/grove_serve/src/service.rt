@@ -1,11 +1,33 @@
+use crate::file_counts::FileCounts;
 use crate::memory_file::MemoryFile;
-use grove_store::Store;
+use grove_store::{Keeper, Store};
+use std::marker::Model;
 use std::net::TcpListener;
+use std::sync::Arc;
 
-/// A store, where connections to it are asked for, and how they are served.
+/// A store with what keeps its rounds. A crash leaves what opens as this store.
 #[derive(Drop)]
-pub struct Service {
+pub struct KeptStore<K: Keeper> {
     pub store: Store,
+    pub keeper: K,
+}
+
+impl<K: Keeper> Model for KeptStore<K> {
+    ghost use Rattle.grove_store.specs.StoreStates.{StoreState};
+
+    ghost Value = { StoreState };
+
+    ghost view = { λ kept. kept.store };
+
+    ghost invariant = { λ kept. K.stands_for kept.keeper kept.store };
+}
+
+/// A store with what keeps its rounds, where connections to it are asked for, and how they are served.
+#[derive(Drop)]
+pub struct Service<K: Keeper> {
+    pub kept: KeptStore<K>,
+    /// What the keeper counts, if it may fail.
+    pub counts: Option<Arc<FileCounts>>,
     pub door: Door,
     /// Where the same store is served over HTTP beside that, if anywhere.
     pub http: Option<Door>,

@@ -1,13 +1,15 @@
 ghost use Rattle.std.specs.Prelude.{◌≡◌};
 
+use crate::file_counts::FileCounts;
 use crate::log::Log;
 use crate::metrics::Metrics;
 use crate::pool::Pool;
 use crate::service::{Door, Manner, Patience, Talk};
+use crate::streams::Streams;
 use grove_page::{MOST_KEPT, Paths};
 use grove_tree::Tree;
 use std::alloc::Global;
-use std::sync::{Mutex, MutexGuard, Wait};
+use std::sync::{Arc, Mutex, MutexGuard, Wait};
 use std::time::Clock;
 
 /// So many connections over HTTP that have no slot are accepted nevertheless, so that requests for the state of the
@@ -30,6 +32,9 @@ pub struct Slots {
     /// The paths of the store's nodes, by which hints go and looks are answered, if there was memory for them.
     paths: Option<Paths>,
     log: Option<Log>,
+    streams: Streams,
+    /// What is counted of the file that rounds are kept in, if they are.
+    kept: Option<Arc<FileCounts>>,
 }
 
 impl Slots {
@@ -41,6 +46,7 @@ impl Slots {
         http: Option<&Door>,
         manner: Manner,
         paths: Option<Paths>,
+        kept: Option<Arc<FileCounts>>,
     ) -> Slots {
         let (lines, requests) = match (door.talk, http) {
             (Talk::Requests, _) => (0, door.slots),
@@ -64,6 +70,8 @@ impl Slots {
             hints,
             paths,
             log: log.map(|form| Log::new(form)),
+            streams: Streams::new(alloc),
+            kept,
         }
     }
 
@@ -106,6 +114,19 @@ impl Slots {
     /// The paths of the store's nodes, if they are known.
     pub fn paths(&self) -> Option<&Paths> {
         self.paths.as_ref()
+    }
+
+    /// The streams of all connections.
+    pub fn streams(&self) -> &Streams {
+        &self.streams
+    }
+
+    /// What is counted of the file that rounds are kept in, if they are.
+    pub fn kept(&self) -> Option<&FileCounts> {
+        match &self.kept {
+            Some(counts) => Some(counts),
+            None => None,
+        }
     }
 
     /// Where it is logged who comes and goes, if anywhere.

@@ -5,13 +5,16 @@ use crate::host::Host;
 use crate::room::state_request;
 use crate::service::Talk;
 use crate::slots::Slots;
+use crate::streams::Listed;
 use crate::timed_stream::{Awaited, TimedStream};
 use crate::timed_writer::TimedWriter;
 use crate::watching::{ServedDesk, session_at};
+use grove_base::NoMemory;
 use grove_desk::{Desk, Opening};
 use grove_gauge::{Place, Ticket};
 use grove_page::{PAGE, Site, serve_page};
 use grove_session::{ReaderSource, SessionFault, WriterSink};
+use grove_store::Keeper;
 use std::cell::Cell;
 use std::hash::RandomState;
 use std::io::{self, Read};
@@ -38,9 +41,9 @@ pub struct Caller {
 
 /// A session, or requests, over the connection, which is closed then and leaves its place. What ends it ends it alone,
 /// and nobody is left there to be told of it. One that has no slot waits for it, unless it asks for the server's state.
-pub fn serve_caller<B: Opening, R: Host>(
+pub fn serve_caller<B: Opening, K: Keeper + Drop, R: Host>(
     rt: &R,
-    desk: &Desk<B>,
+    desk: &Desk<B, K>,
     slots: &Slots,
     caller: Caller,
     ticket: Ticket,
@@ -51,57 +54,79 @@ pub fn serve_caller<B: Opening, R: Host>(
         talk,
     } = caller;
     let guest = Guest::new(slots, talk, number);
-    let pool = slots.pool(talk);
+    match slots.streams().add(rt, stream) {
+        Ok(listed) => serve_listed(rt, desk, &guest, listed, ticket),
+        Err(NoMemory) => {
+            guest.note_end(rt, Ending::Memory);
+            slots.pool(talk).leave(rt, ticket);
+        }
+    }
+}
+
+/// The same over a stream that is listed.
+fn serve_listed<'a, B: Opening, K: Keeper + Drop, R: Host>(
+    rt: &R,
+    desk: &'a Desk<B, K>,
+    guest: &'a Guest<'a>,
+    listed: Listed,
+    ticket: Ticket,
+) {
+    let slots = guest.slots();
+    let pool = slots.pool(guest.talk());
     match ticket.place() {
-        Place::Slot => talk_in_slot(rt, desk, &guest, stream, ticket),
-        Place::Room => match state_request(rt, &stream) {
+        Place::Slot => talk_in_slot(rt, desk, guest, listed, ticket),
+        Place::Room => match state_request(rt, listed.stream()) {
             Some(length) => {
-                answer_state(rt, desk, &guest, &stream, length);
-                drop(stream);
+                answer_state(rt, desk, guest, listed.stream(), length);
+                slots.streams().remove(rt, listed);
                 pool.leave(rt, ticket);
             }
             None if slots.patience().tells_busy => {
-                turn_away(rt, slots, &stream, talk, number);
-                drop(stream);
+                turn_away(rt, slots, listed.stream(), guest.talk(), guest.number());
+                slots.streams().remove(rt, listed);
                 pool.leave(rt, ticket);
             }
             None => {
                 let ticket = pool.enter(rt, ticket);
-                talk_in_slot(rt, desk, &guest, stream, ticket);
+                talk_in_slot(rt, desk, guest, listed, ticket);
             }
         },
     }
 }
 
 /// A session, or requests, over a connection that has a slot, which it leaves then.
-fn talk_in_slot<'a, B: Opening, R: Host>(
+fn talk_in_slot<'a, B: Opening, K: Keeper + Drop, R: Host>(
     rt: &R,
-    desk: &'a Desk<B>,
+    desk: &'a Desk<B, K>,
     guest: &'a Guest<'a>,
-    stream: TcpStream,
+    listed: Listed,
     ticket: Ticket,
 ) {
     let slots = guest.slots();
+    let stream = listed.stream();
     let traffic = slots.metrics().traffic(guest.talk());
     traffic.begun.count_one();
     // No reply is to wait until the one before it has arrived.
     let _at_once = stream.set_nodelay(true);
     let ending = match (guest.talk(), slots.patience().idle) {
-        (Talk::Lines, None) => answer_lines(rt, desk, guest, &stream),
-        (Talk::Lines, Some(idle)) => answer_in_time(rt, desk, guest, &stream, idle),
-        (Talk::Requests, idle) => answer_requests(rt, desk, guest, &stream, idle),
+        (Talk::Lines, None) => answer_lines(rt, desk, guest, stream),
+        (Talk::Lines, Some(idle)) => answer_in_time(rt, desk, guest, stream, idle),
+        (Talk::Requests, idle) => answer_requests(rt, desk, guest, stream, idle),
     };
     guest.note_end(rt, ending);
     traffic.left.count_one();
+    if desk.has_failed(rt) {
+        slots.streams().fail(rt);
+    }
     // Whoever waits for the slot may wait for the descriptor.
-    drop(stream);
+    slots.streams().remove(rt, listed);
     slots.pool(guest.talk()).leave(rt, ticket);
 }
 
 /// A session over the stream.
-fn answer_lines<'a, B: Opening, R: Host>(
+fn answer_lines<'a, B: Opening, K: Keeper + Drop, R: Host>(
     rt: &R,
-    desk: &'a Desk<B>,
+    desk: &'a Desk<B, K>,
     guest: &'a Guest<'a>,
     stream: &TcpStream,
 ) -> Ending {
@@ -112,9 +137,9 @@ fn answer_lines<'a, B: Opening, R: Host>(
 }
 
 /// A session over the stream, which may idle for so many seconds. A client that takes nothing of its replies idles too.
-fn answer_in_time<'a, B: Opening, R: Host>(
+fn answer_in_time<'a, B: Opening, K: Keeper + Drop, R: Host>(
     rt: &R,
-    desk: &'a Desk<B>,
+    desk: &'a Desk<B, K>,
     guest: &'a Guest<'a>,
     stream: &TcpStream,
     seconds: u32,
@@ -136,9 +161,9 @@ fn answer_in_time<'a, B: Opening, R: Host>(
 }
 
 /// Requests of HTTP over the stream, each of which may take so many seconds to come, or for ever.
-fn answer_requests<'a, B: Opening, R: Host>(
+fn answer_requests<'a, B: Opening, K: Keeper + Drop, R: Host>(
     rt: &R,
-    desk: &'a Desk<B>,
+    desk: &'a Desk<B, K>,
     guest: &'a Guest<'a>,
     stream: &TcpStream,
     idle: Option<u32>,
@@ -166,9 +191,9 @@ fn answer_requests<'a, B: Opening, R: Host>(
 
 /// The request of so many bytes that has come over the stream, from a connection without a slot. It is read as if it
 /// asked that the connection ends, since that ends behind it.
-fn answer_state<'a, B: Opening, R: Host>(
+fn answer_state<'a, B: Opening, K: Keeper + Drop, R: Host>(
     rt: &R,
-    desk: &'a Desk<B>,
+    desk: &'a Desk<B, K>,
     guest: &'a Guest<'a>,
     stream: &TcpStream,
     length: u64,
@@ -188,9 +213,9 @@ fn answer_state<'a, B: Opening, R: Host>(
 
 /// Requests that the reader gives, under the names of the server, with the responses over the stream; or why none is
 /// answered.
-fn serve_site<B: Opening, R: Host, I: Read>(
+fn serve_site<B: Opening, K: Keeper + Drop, R: Host, I: Read>(
     rt: &R,
-    front: &ServedDesk<'_, B>,
+    front: &ServedDesk<'_, B, K>,
     guest: &Guest<'_>,
     reader: &mut I,
     stream: &TcpStream,

@@ -10,10 +10,10 @@ use crate::leaving::has_left;
 use crate::metrics::Metrics;
 use crate::metrics_text::metrics_text;
 use grove_base::{Hint, NoMemory};
-use grove_desk::{Awaited, Desk, Opening, Told};
+use grove_desk::{Awaited, Desk, DeskFault, Opening, Told};
 use grove_page::{Front, HintedVisit, LONGEST_WAIT, RepliesSink, Visited, hint_of_refusal, visit};
 use grove_session::{AnswerFault, Answers, SessionFault, Sink, Source, session};
-use grove_store::{Refusal, Store};
+use grove_store::{Keeper, Refusal, Store};
 use std::alloc::{AllocGlobal, Global};
 use std::marker::Model;
 use std::net::TcpStream;
@@ -22,12 +22,12 @@ use std::time::{Clock, Duration};
 
 /// A visitor of a desk whose lines are counted.
 #[derive(Drop)]
-pub struct WatchedVisit<'a, B: Opening> {
-    visit: HintedVisit<'a, B, Metrics>,
+pub struct WatchedVisit<'a, B: Opening, K: Keeper> {
+    visit: HintedVisit<'a, B, K, Metrics>,
     guest: &'a Guest<'a>,
 }
 
-impl<'a, B: Opening> Model for WatchedVisit<'a, B> {
+impl<'a, B: Opening, K: Keeper> Model for WatchedVisit<'a, B, K> {
     ghost use Rattle.grove_page.specs.Hints.{CallerState};
 
     ghost Value = { CallerState };
@@ -35,9 +35,9 @@ impl<'a, B: Opening> Model for WatchedVisit<'a, B> {
     ghost view = { λ watched. watched.visit };
 }
 
-impl<'a, B: Opening> WatchedVisit<'a, B> {
+impl<'a, B: Opening, K: Keeper> WatchedVisit<'a, B, K> {
     /// A visitor who has seen nothing yet, with hints in refusals if these are asked for.
-    fn new(desk: &'a Desk<B>, guest: &'a Guest<'a>, hints: bool) -> Self
+    fn new(desk: &'a Desk<B, K>, guest: &'a Guest<'a>, hints: bool) -> Self
         ensures { result ≡ caller hints desk.entry.now.opening }
     {
         let slots = guest.slots();
@@ -92,7 +92,7 @@ impl<'a, B: Opening> WatchedVisit<'a, B> {
     }
 }
 
-impl<'a, B: Opening, R: Host> Answers<R> for WatchedVisit<'a, B> {
+impl<'a, B: Opening, K: Keeper + Drop, R: Host> Answers<R> for WatchedVisit<'a, B, K> {
     ghost use Rattle.std.specs.Prelude.{true};
     ghost use Rattle.std.specs.Thread.{IsSync};
     ghost use Rattle.grove_page.specs.Hints.{IsCallerReply};
@@ -132,9 +132,9 @@ impl<'a, B: Opening, R: Host> Answers<R> for WatchedVisit<'a, B> {
 
 /// Answers the lines of the guest's source at the desk, one after the other, with hints in refusals if these are asked
 /// for.
-pub fn session_at<'a, B: Opening, R: Host, I: Source, O: Sink>(
+pub fn session_at<'a, B: Opening, K: Keeper + Drop, R: Host, I: Source, O: Sink>(
     rt: &R,
-    desk: &'a Desk<B>,
+    desk: &'a Desk<B, K>,
     guest: &'a Guest<'a>,
     hints: bool,
     source: &mut I,
@@ -156,14 +156,14 @@ pub fn session_at<'a, B: Opening, R: Host, I: Source, O: Sink>(
 /// A desk to which the requests of a guest go. Of all guests' long bodies one at a time is answered: so only that one's
 /// lines are copied.
 #[derive(Drop)]
-pub struct ServedDesk<'a, B: Opening> {
-    desk: &'a Desk<B>,
+pub struct ServedDesk<'a, B: Opening, K: Keeper> {
+    desk: &'a Desk<B, K>,
     guest: &'a Guest<'a>,
     /// The connection over which the requests come.
     stream: &'a TcpStream,
 }
 
-impl<'a, B: Opening> Model for ServedDesk<'a, B> {
+impl<'a, B: Opening, K: Keeper> Model for ServedDesk<'a, B, K> {
     ghost use Rattle.grove_desk.specs.Desks.{DeskState};
 
     ghost Value = { DeskState };
@@ -171,8 +171,8 @@ impl<'a, B: Opening> Model for ServedDesk<'a, B> {
     ghost view = { λ served. served.desk.now };
 }
 
-impl<'a, B: Opening> ServedDesk<'a, B> {
-    pub fn new(desk: &'a Desk<B>, guest: &'a Guest<'a>, stream: &'a TcpStream) -> Self {
+impl<'a, B: Opening, K: Keeper + Drop> ServedDesk<'a, B, K> {
+    pub fn new(desk: &'a Desk<B, K>, guest: &'a Guest<'a>, stream: &'a TcpStream) -> Self {
         ServedDesk {
             desk,
             guest,
@@ -180,11 +180,28 @@ impl<'a, B: Opening> ServedDesk<'a, B> {
         }
     }
 
+    /// Has all connections end before long, if that is why the answers to a body ended.
+    fn note_end<R: Wait>(&self, rt: &R, ended: Result<u64, SessionFault>) {
+        if let Err(SessionFault::Unkept) = ended {
+            self.guest.slots().streams().fail(rt);
+        }
+    }
+
+    /// A copy of the store, if it is kept.
+    fn kept_copy<R: Wait + AllocGlobal>(&self, rt: &R) -> Result<Option<Store>, NoMemory> {
+        match self.desk.snapshot(rt, rt.alloc()) {
+            Ok(store) => Ok(Some(store)),
+            Err(DeskFault::Memory) => Err(NoMemory),
+            Err(DeskFault::Unkept | DeskFault::Foreign) => Ok(None),
+        }
+    }
+
     /// Waits for a round later than this one, as long as a desk does, or until the client has left.
     fn await_round<R: Wait + Clock>(&self, rt: &R, after: u64) -> Result<(), NoMemory> {
         let pause = Duration::from_secs(1);
         for _second in 0..LONGEST_WAIT {
-            if self.desk.await_round(rt, after, pause)? || has_left(self.stream) {
+            let is_past = self.desk.await_round(rt, after, pause)?;
+            if is_past || has_left(self.stream) || self.desk.has_failed(rt) {
                 break;
             }
         }
@@ -192,7 +209,7 @@ impl<'a, B: Opening> ServedDesk<'a, B> {
     }
 }
 
-impl<'a, B: Opening, R: Host> Front<R> for ServedDesk<'a, B> {
+impl<'a, B: Opening, K: Keeper + Drop, R: Host> Front<R> for ServedDesk<'a, B, K> {
     ghost use Rattle.std.specs.Thread.{IsSync};
 
     ghost opening = { λ served. served.opening };
@@ -203,27 +220,27 @@ impl<'a, B: Opening, R: Host> Front<R> for ServedDesk<'a, B> {
         let _turn = self.guest.slots().turn_of_body(rt, lines.len());
         let mut visitor = WatchedVisit::new(self.desk, self.guest, hints);
         let ended = visit(rt, &mut visitor, lines, sink);
+        self.note_end(rt, ended);
         Visited::new(ended, visitor.told())
     }
 
-    fn snapshot(&self, rt: &R) -> Result<Store, NoMemory> {
+    fn snapshot(&self, rt: &R) -> Result<Store, DeskFault> {
         Desk::snapshot(self.desk, rt, rt.alloc())
     }
 
     fn metrics(&self, rt: &R, by_node: bool) -> Result<String, NoMemory> {
-        let alloc = rt.alloc();
-        let store = if by_node {
-            Some(Desk::snapshot(self.desk, rt, alloc)?)
-        } else {
-            None
-        };
+        let store = if by_node { self.kept_copy(rt)? } else { None };
         let plans = self.desk.plan_counts(rt);
         metrics_text(rt, self.guest.slots(), plans, store.as_ref())
     }
 
-    fn snapshot_after(&self, rt: &R, after: u64) -> Result<Awaited, NoMemory> {
+    fn snapshot_after(&self, rt: &R, after: u64) -> Result<Awaited, DeskFault> {
         self.await_round(rt, after)?;
         Desk::snapshot_after(self.desk, rt, rt.alloc(), after, Duration::ZERO)
+    }
+
+    fn is_sound(&self, rt: &R) -> bool {
+        !self.desk.has_failed(rt)
     }
 
     fn note_request(&self) {

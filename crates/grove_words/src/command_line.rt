@@ -4,7 +4,7 @@ ghost use Rattle.grove_words.specs.NoOrders.{HasText};
 use crate::definitions::command_line;
 use crate::no_order::{NoOrder, no_order};
 use crate::options::{file_in, form_in, http_seats_in, log_in, texts_of, workers_in};
-use crate::order::{Command, Document, Invocation, Order, Patience, Serving};
+use crate::order::{Command, Document, Front, Invocation, Order, Patience, Serving};
 use crate::places::{place_in, server_in};
 use crate::togetherness::go_together;
 use clap::{ArgMatches, Error};
@@ -54,8 +54,14 @@ fn order_with<'a>(alloc: Global, word: &str, given: &ArgMatches<'a>) -> Result<O
         },
         "audit" => Command::Audit,
         "tree" => tree_command(given),
-        "serve" => Command::Serve(serving_in(alloc, word, given)?),
-        "page" => Command::Page(serving_in(alloc, word, given)?),
+        "serve" => return serving_order(alloc, word, Front::Sessions, given),
+        "page" => return serving_order(alloc, word, Front::Page, given),
+        "data" => {
+            return Ok(Order::Data {
+                file: file_in(given),
+                checks: given.get_flag("check"),
+            });
+        }
         "ask" => {
             return Ok(Order::Ask {
                 server: server_in(alloc, word, given)?,
@@ -69,6 +75,31 @@ fn order_with<'a>(alloc: Global, word: &str, given: &ArgMatches<'a>) -> Result<O
             });
         }
         _judge => Command::Judge,
+    };
+    Ok(Order::Do {
+        command,
+        document: document_in(given),
+    })
+}
+
+/// A store is served: a document's, or without one that of the file of its rounds.
+fn serving_order<'a>(
+    alloc: Global,
+    word: &str,
+    front: Front,
+    given: &ArgMatches<'a>,
+) -> Result<Order<'a>, Error> {
+    let serving = serving_in(alloc, word, given)?;
+    if let (None, Some(file)) = (given.get_str("DOC"), serving.data) {
+        return Ok(Order::Resume {
+            front,
+            file,
+            serving,
+        });
+    }
+    let command = match front {
+        Front::Sessions => Command::Serve(serving),
+        Front::Page => Command::Page(serving),
     };
     Ok(Order::Do {
         command,
@@ -99,6 +130,7 @@ fn tree_command<'a>(given: &ArgMatches<'_>) -> Command<'a> {
 fn serving_in<'a>(alloc: Global, word: &str, given: &ArgMatches<'a>) -> Result<Serving<'a>, Error> {
     Ok(Serving {
         place: place_in(alloc, word, given)?,
+        data: given.get_str("data"),
         workers: workers_in(given),
         patience: Patience {
             idle: given.get_one::<u32>("idle"),

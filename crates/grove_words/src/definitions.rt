@@ -25,7 +25,8 @@ pub fn command_line<'a>(alloc: Global) -> Result<clap::Command<'a>, AllocError> 
     let serves = add(trees, serve(alloc));
     let pages = add(serves, page(alloc));
     let asks = add(pages, ask(alloc));
-    add(asks, save(alloc))
+    let saves = add(asks, save(alloc));
+    add(saves, data(alloc))
 }
 
 /// The program with one more command, if there was memory for both.
@@ -45,6 +46,7 @@ pub fn command_named<'a>(alloc: Global, word: &str) -> Result<clap::Command<'a>,
         "page" => page(alloc)?.bin_name("grove page"),
         "ask" => ask(alloc)?.bin_name("grove ask"),
         "save" => save(alloc)?.bin_name("grove save"),
+        "data" => data(alloc)?.bin_name("grove data"),
         _ => command_line(alloc),
     }
 }
@@ -143,6 +145,7 @@ fn serving<'a>(
         .about(about)
         .args(vec![in alloc;
             document(alloc),
+            kept(alloc),
             port(alloc, "The port to listen on"),
             flag(alloc, "any-port", any_port),
             address(alloc, "bind", "The IP address to listen at"),
@@ -156,7 +159,14 @@ fn serving<'a>(
             flag(alloc, "hints", hints),
             host(alloc),
         ]?)?
+        .group(source(alloc)?)?
         .group(listening(alloc)?)
+}
+
+/// What is served comes from a document, from the file of an earlier server, or is looked for in both.
+fn source<'a>(alloc: Global) -> Result<ArgGroup<'a>, AllocError> {
+    let sources = ArgGroup::new(alloc, "source").arg("DOC")?.arg("data")?;
+    Ok(sources.multiple(true).required(true))
 }
 
 /// One of the ways to say which port is listened on is needed.
@@ -183,6 +193,20 @@ fn save<'a>(alloc: Global) -> Result<clap::Command<'a>, AllocError> {
     calling(alloc, "save", about)?.arg(file)
 }
 
+/// The command that looks into the file of a server's rounds.
+fn data<'a>(alloc: Global) -> Result<clap::Command<'a>, AllocError> {
+    let about = "Print the document of a file of --data, also while a server has it open";
+    let help = "The file of --data; it is only read";
+    let check = "Print its rounds, its bytes, and whether its end is whole";
+    let file = Arg::new(alloc, "FILE").help(help).required(true);
+    clap::Command::new(alloc, "data")
+        .about(about)
+        .arg(file)?
+        .arg(flag(alloc, "check", check))?
+        .arg(quiet(alloc))?
+        .arg(explain(alloc))
+}
+
 /// A command that is a client of the server at a port.
 fn calling<'a>(
     alloc: Global,
@@ -199,7 +223,13 @@ fn calling<'a>(
 
 fn document<'a>(alloc: Global) -> Arg<'a> {
     let help = "The file of the document with the tree and its records";
-    valued(alloc, "DOC", "tree", "DOC", help).required(true)
+    valued(alloc, "DOC", "tree", "DOC", help)
+}
+
+fn kept<'a>(alloc: Global) -> Arg<'a> {
+    let help =
+        "Keep each round in this file, which goes on from there; it is made of DOC if it isn't there";
+    valued(alloc, "data", "data", "FILE", help)
 }
 
 fn quiet<'a>(alloc: Global) -> Arg<'a> {

@@ -4,7 +4,8 @@
 pub use command_line::order_of;
 pub use no_order::{NoOrder, not_text};
 pub use order::{
-    Command, Document, Form, Invocation, LogForm, Order, Patience, Place, Port, Serving, Workers,
+    Command, Document, Form, Front, Invocation, LogForm, Order, Patience, Place, Port, Serving,
+    Workers,
 };
 
 mod command_line;

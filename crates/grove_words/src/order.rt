@@ -17,6 +17,17 @@ pub enum Order<'a> {
         command: Command<'a>,
         document: Document<'a>,
     },
+    /// The store of a file is served as it stands there.
+    Resume {
+        front: Front,
+        file: &'a str,
+        serving: Serving<'a>,
+    },
+    /// What a file of a store has is told: its document, or the state that the file is in.
+    Data {
+        file: &'a str,
+        checks: bool,
+    },
     /// A server is asked these lines, or those of standard input if there are none.
     Ask {
         server: SocketAddr,
@@ -57,10 +68,21 @@ pub enum Document<'a> {
     Named(&'a str),
 }
 
+/// How a store is served.
+#[derive(Clone, Copy)]
+pub enum Front {
+    /// To sessions.
+    Sessions,
+    /// Over HTTP.
+    Page,
+}
+
 /// Where and how a store is served.
 #[derive(Drop)]
 pub struct Serving<'a> {
     pub place: Place,
+    /// The file that its rounds are kept in, if they are.
+    pub data: Option<&'a str>,
     pub workers: Workers,
     pub patience: Patience,
     /// The form of the log of connections on standard error, if there is one.

@@ -9,6 +9,20 @@ returns-in-Do-clause-done g c = rw c.in-Do.is c.do_command.ensures.done
 pub returns-in-Do-clause-stopped : goal.returns-in-Do-clause-stopped
 returns-in-Do-clause-stopped g c = rw c.in-Do.is c.do_command.ensures.stopped
 
+pub returns-in-Resume-clause-done : goal.returns-in-Resume-clause-done
+returns-in-Resume-clause-done g c =
+    rw c.in-Resume.is (IfOk-weaker c.resume.result _ _ (λ status said. inl said) c.resume.ensures.done)
+
+pub returns-in-Resume-clause-stopped : goal.returns-in-Resume-clause-stopped
+returns-in-Resume-clause-stopped g c = rw c.in-Resume.is c.resume.ensures.stopped
+
+pub returns-in-Data-clause-done : goal.returns-in-Data-clause-done
+returns-in-Data-clause-done g c =
+    rw c.in-Data.is (IfOk-weaker c.tell_file.result _ _ (λ status said. inl said) c.tell_file.ensures.done)
+
+pub returns-in-Data-clause-stopped : goal.returns-in-Data-clause-stopped
+returns-in-Data-clause-stopped g c = rw c.in-Data.is c.tell_file.ensures.stopped
+
 pub returns-in-Ask-clause-done : goal.returns-in-Ask-clause-done
 returns-in-Ask-clause-done g c = rw c.in-Ask.is (IfOk-weaker c.ask.result _ _ (λ status few. inl few) c.ask.ensures)
 

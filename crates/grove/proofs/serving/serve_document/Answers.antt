@@ -1,19 +1,14 @@
-use Rattle.std.proofs.Common.{Ok, refl, string_bytes}
+use Rattle.std.proofs.Common.{Ok}
 use Rattle.serde_json.specs.View.{view}
-use Rattle.grove_wire.specs.Reading.{tree_in}
-use Rattle.grove.proofs.Saying.{says_lines}
+use Rattle.grove_words.specs.declared.order.Command.TheVariants as command
 use Rattle.grove.proofs.serving.serve_document.Goals as goal
 
-pub returns-in_ok-door-in-Ok-clause-lines : goal.returns-in_ok-door-in-Ok-clause-lines
-returns-in_ok-door-in-Ok-clause-lines g c = (
-  refl,
-  says_lines c.args.serving.now.place (tree_in (view c.args.document.now))
-      (string_bytes c.in_ok-door-in-Ok.field-0.line) c.in-Ok.ensures.opened c.in_ok-door-in-Ok.ensures,
-)
+pub returns-in-Err-clause-lines : goal.returns-in-Err-clause-lines
+returns-in-Err-clause-lines g c =
+    c.refused.ensures (command.Serve c.args.serving.now) (Ok (view c.args.document.now))
+    (c.in-Err.ensures.refused c.args.serving.now)
 
-pub returns-in_ok-door-in-Ok-clause-requests : goal.returns-in_ok-door-in-Ok-clause-requests
-returns-in_ok-door-in-Ok-clause-requests g c = (
-  refl,
-  says_lines c.args.serving.now.place (tree_in (view c.args.document.now))
-      (string_bytes c.in_ok-door-in-Ok.field-0.line) c.in-Ok.ensures.opened c.in_ok-door-in-Ok.ensures,
-)
+pub returns-in-Err-clause-requests : goal.returns-in-Err-clause-requests
+returns-in-Err-clause-requests g c =
+    c.refused.ensures (command.Page c.args.serving.now) (Ok (view c.args.document.now))
+    (c.in-Err.ensures.refused c.args.serving.now)
