@@ -267,7 +267,7 @@ class Attempt:
             begins = None
             if len(changes) + len(then) > MOST_OPERATIONS - MOST_INNER:
                 then = []
-        part = Part(guards, changes, then, otherwise, about, inner)
+        part = Part(guards, changes, then, otherwise, about, inner).written()
         return Ready(found, group, part, leaves, begins, bool(then))
 
     def about(self, found: Seen, group: Group) -> frozenset[str]:
@@ -494,7 +494,8 @@ class Attempt:
         """Calls the work, once for each try."""
         if self.means.work is not None:
             self.means.journal.log("work", job=token)
-            self.means.work(access, record, token)
+            # A list of its own, since the work may change it.
+            self.means.work(list(access), record, token)
 
     def fail(self, found: Seen, fails: int, why: str) -> Seen | None:
         """Sets the job aside, or pauses before the next try."""

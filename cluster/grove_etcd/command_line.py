@@ -9,9 +9,13 @@ from importlib import import_module
 from pathlib import Path
 from typing import Any, Callable, NoReturn
 
-# A program imports this module before the others, which import these.
+from .later import later
+
+# A program imports this module before the others, which import these. No program uses gRPC from tasks of an event loop,
+# and to load what that needs takes half as long again.
 try:
-    import_module("grpc")
+    with later("asyncio", "grpc.aio"):
+        import_module("grpc")
     import_module("google.protobuf.message_factory")
 except Exception as why:  # packages that don't go together raise errors of their own
     usage = sys.modules["__main__"].__doc__

@@ -226,10 +226,12 @@ class Members:
         """How many keys have this prefix; by the asked member alone, if that is enough."""
         return int(self.range(counting(prefix, revision, is_at_hand)).count)
 
-    def counts(self, prefixes: Sequence[str], revision: int) -> list[int]:
-        """The same of several, side by side."""
-        with ThreadPoolExecutor(len(prefixes)) as pool:
-            return list(pool.map(lambda prefix: self.count(prefix, revision), prefixes))
+    def counts(self, prefixes: Sequence[str], revision: int) -> Callable[[], list[int]]:
+        """The same of several, side by side. Gives what waits for them, and something else can be done meanwhile."""
+        pool = ThreadPoolExecutor(len(prefixes))
+        counts = pool.map(lambda prefix: self.count(prefix, revision), prefixes)
+        pool.shutdown(wait=False)
+        return lambda: list(counts)
 
     def range(self, request: Any) -> Any:
         return self.call_until_answered(lambda member: member.ask(member.range, request, self.seconds))

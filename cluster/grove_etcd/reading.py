@@ -34,15 +34,16 @@ class Reader:
         # Nodes stay for good.
         self.nodes: set[str] = set()
 
-    def note(self, found: dict[str, Entry]) -> list[str]:
-        """The names of the jobs of which these keys say that nobody has begun them, the oldest first. A key that is too
-        long for one is deleted."""
+    def note(self, found: dict[str, Entry], are_more: bool = False) -> list[str]:
+        """The names of the jobs of which these keys say that nobody has begun them, the oldest first; or more of those
+        that were noted last. A key that is too long for one is deleted."""
         known = sorted(key for key in found if len(key) <= MOST_KEY)
         for key in found.keys() - set(known):
             self.journal.log("stray", key=f"{key[:MOST_SAID]}..")
             self.members.write([deleting(key)])
-        self.fresh = {last_part(key): Fresh(key, found[key].put_at, found[key].value) for key in known}
-        return list(self.fresh)
+        fresh = {last_part(key): Fresh(key, found[key].put_at, found[key].value) for key in known}
+        self.fresh = {**self.fresh, **fresh} if are_more else fresh
+        return list(fresh)
 
     def oldest(self) -> float:
         """When the first of these jobs was submitted, in seconds; 0 if there is none, or its key doesn't say that."""

@@ -42,6 +42,11 @@ class Part:
     def request(self) -> Request:
         return request_of(self.guards, [*self.changes, *self.then], [*self.otherwise, *self.own])
 
+    def written(self) -> Part:
+        """The same, with its request serialized, so that it only has to be sent."""
+        _ = self.request
+        return self
+
     @property
     def size(self) -> int:
         longest = max(len(self.guards), len(self.changes), len(self.then), len(self.otherwise))

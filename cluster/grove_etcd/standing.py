@@ -4,13 +4,13 @@ from __future__ import annotations
 from dataclasses import dataclass
 from typing import Iterable, Iterator
 
-from .head import Head, head_of
+from .counted import Counted
 from .jobs import Aside, Progress
 from .keys import Keys, last_part
 from .members import PAGE, Members
 from .past import Epoch, epochs_in, names_below, past_job, pasts
 from .refusals import Refused
-from .wire import Entry, reading, reading_below
+from .wire import Entry, reading
 
 
 @dataclass(frozen=True)
@@ -29,8 +29,12 @@ class Standing:
 
     @staticmethod
     def read(members: Members, keys: Keys, epoch: int | None) -> Standing:
-        small = Small.read(members, keys)
-        at, now = small.head.revision, small.head.epoch
+        return Standing.of(members, keys, Counted.begin(members, keys), epoch)
+
+    @staticmethod
+    def of(members: Members, keys: Keys, counted: Counted, epoch: int | None) -> Standing:
+        small = Small.read(members, keys, counted)
+        at, now = counted.head.revision, counted.head.epoch
         epochs = {number: of for number, of in small.epochs.items() if number < now}
         begun = held_by(members, keys, small.begun, at)
         aside = small.aside
@@ -41,7 +45,7 @@ class Standing:
             count = len(epochs[epoch].jobs)
             return Standing(epoch, count, count, 0, held, epochs, at, False)
         closed = sum(len(of.jobs) for of in epochs.values())
-        every, fresh, known = members.counts([keys.whole(kind) for kind in "pqj"], at)
+        every, fresh, known = counted.counts()
         going = sum(nodes is not None for nodes in begun.values()) + sum(bool(each.groups) for each in aside.values())
         jobs, ended = every - closed, known - closed - going
         there = sum(each.why != "job-gone" for each in aside.values())
@@ -66,27 +70,22 @@ class Standing:
 
 @dataclass(frozen=True)
 class Small:
-    """What there are few keys of, all at the head's revision: the epochs that are kept, the jobs under way, and those
-    that are set aside."""
+    """What there are few keys of: the epochs that are kept, the jobs under way, and those that are set aside."""
 
-    head: Head
     epochs: dict[int, Epoch]
     begun: list[str]
     aside: dict[str, Aside]
 
     @staticmethod
-    def read(members: Members, keys: Keys) -> Small:
-        """In one request, unless there are many all the same."""
-        heads = [reading(keys.head()), reading(keys.old_head())]
-        found = members.read(heads + [reading_below(keys.whole(kind), PAGE) for kind in "xua"])
-        head = head_of(keys, found)
+    def read(members: Members, keys: Keys, counted: Counted) -> Small:
+        """Nothing is asked for, unless there are many all the same."""
 
         def all_of(kind: str) -> dict[str, Entry]:
-            entries = found.below(keys.whole(kind))
-            return entries if len(entries) < PAGE else members.below(keys.whole(kind), head.revision).entries
+            entries = counted.few.below(keys.whole(kind))
+            return entries if len(entries) < PAGE else members.below(keys.whole(kind), counted.head.revision).entries
 
         aside = {last_part(key): Aside.read(entry.value) for key, entry in all_of("a").items()}
-        return Small(head, epochs_in(all_of("x")), list(map(last_part, all_of("u"))), aside)
+        return Small(epochs_in(all_of("x")), list(map(last_part, all_of("u"))), aside)
 
 
 def held_by(members: Members, keys: Keys, names: Iterable[str], revision: int) -> dict[str, list[str] | None]:

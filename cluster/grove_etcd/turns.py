@@ -76,11 +76,12 @@ class Turns:
 
     def avoided(self) -> set[str]:
         """The nodes at which a job that is begun would only wait behind another one of this worker, none of which has
-        waited for long."""
+        waited for long; or any of them, if no more may wait."""
         with self.changed:
             waits = [each for each in self.waits.values() if each.node]
         long_ago = time.monotonic() - ALONE_SECONDS
-        return {each.node for each in waits} - {each.node for each in waits if each.since <= long_ago}
+        nodes = {each.node for each in waits}
+        return nodes if self.is_full() else nodes - {each.node for each in waits if each.since <= long_ago}
 
     def is_full(self) -> bool:
         return self.waiting >= self.most_waiting

@@ -31,14 +31,16 @@ from .signs import PATIENCE, Abandoned
 from .together import Batch, Outcome
 from .turns import Turns
 from .waiting import Watched, wait
-from .wire import Found, after, deleting, reading, reading_below, unchanged
+from .wire import Found, after, deleting, reading, reading_below, reading_from, unchanged
 
 # How many jobs are looked at at once, and how many are chosen of them: with work, and without.
 MOST_LOOKED_AT, MOST_BEGUN, LEAST_BEGUN = 768, 12, 2
 MOST_SHORT, MOST_CHOSEN = 3072, 1536
-# How many of the latter are read for one transaction. After two of fewer jobs than so many within a moment, for how
-# long it is waited until it is looked for more.
-MOST_TOGETHER, FEW, MOMENT_SECONDS, GATHER_SECONDS = 192, 48, 0.2, 0.02
+# How many of the latter are read for one transaction. After two of fewer jobs within a moment, for how long it is
+# waited until it is looked for more: shortly if the last one had few, since then its submitters may wait for each.
+MOST_TOGETHER, FEW, MOMENT_SECONDS, GATHER_SECONDS, LONG_GATHER_SECONDS = 192, 8, 0.2, 0.02, 0.05
+# If all that it looks at would only wait, how many times as many more it looks through.
+MOST_BEYOND = 8
 # How long a worker pauses if others come to the nodes of its jobs.
 STEP_BACK_SECONDS, LONGEST_STEP_BACK_SECONDS = 0.05, 1.5
 # How often it is looked whether the worker is to end, while all turns are taken.
@@ -97,8 +99,8 @@ class Worker:
         self.shares = Shares(name, work is None)
         # When it did few jobs in one transaction last.
         self.gathered_at = float("-inf")
-        # How many jobs it looks at at once.
-        self.most = MOST_SHORT if work is None else MOST_LOOKED_AT
+        # How many jobs it looks at at once; and the last key of those beyond them that it has looked through.
+        self.most, self.beyond = MOST_SHORT if work is None else MOST_LOOKED_AT, ""
         self.pauses = pauses()
         # The jobs that nobody had begun when it looked last, as far as it looked, and since when the oldest has been.
         self.fresh, self.oldest = 0, 0.0
@@ -128,13 +130,20 @@ class Worker:
         with self.on_leash(), self.means.signs.during():
             self.means.journal.log("started", worker=self.means.name)
             try:
-                self.means.signs.give_now()
+                self.become_known()
                 self.do_jobs(until_ended)
             finally:
                 self.end()
             self.means.journal.log("stopped", worker=self.means.name)
         if self.error is not None:
             raise self.error
+
+    def become_known(self) -> None:
+        """Others know of it by its signs of life. Without work they leave it a share, so one is given first."""
+        if self.means.work is None:
+            self.means.signs.give_now()
+        else:
+            self.means.aside.submit(self.means.signs.give_now)
 
     def end(self) -> None:
         """Once all its threads have."""
@@ -199,7 +208,7 @@ class Worker:
         rest = self.rest()
         if rest is not None:
             return rest
-        some = self.some_of(found)
+        some = self.some_of(found) or self.some_beyond(found)
         if some:
             return self.chosen_for(some, lambda names: self.run_some(in_order(some, names), names))
         return None
@@ -291,18 +300,33 @@ class Worker:
         each = ((last_part(key), self.reader.under_way(key, entry)) for key, entry in begun.items())
         return {name: under_way for name, under_way in each if under_way is not None}
 
-    def some_of(self, found: Found) -> list[str]:
-        """Some of the jobs that nobody has begun; no more than leaves as many for each thread."""
+    def some_of(self, found: Found, among: Optional[set[str]] = None) -> list[str]:
+        """Some of the jobs that nobody has begun; no more than leaves as many for each thread of these workers, or else
+        of those that were found."""
         keys = found.below(self.keys.whole("q"))
         nodes = {last_part(key): keys[key].value for key in sorted(keys) if len(key) <= MOST_KEY}
         avoided = self.turns.avoided()
         fresh = {name: node for name, node in nodes.items() if name not in self.chosen and node not in avoided}
-        workers = self.workers(found)
+        workers = self.workers(found) if among is None else among
         if self.means.work is None:
             return self.shares.choose(fresh, workers, min(MOST_CHOSEN, max(1, len(fresh) // self.count)))
         # As many are left for each thread of each worker.
         each = len(fresh) // (self.count * len(workers))
         return self.shares.choose(fresh, workers, min(MOST_BEGUN, max(LEAST_BEGUN, each)))
+
+    def some_beyond(self, found: Found) -> list[str]:
+        """Some of those that come after the jobs that were looked at, if these are as many as are looked at. It goes on
+        where it has ended the last time."""
+        seen = found.below(self.keys.whole("q"))
+        for _ in range(MOST_BEYOND if len(seen) >= self.most else 0):
+            start = max(self.beyond, max(seen)) + "\0"
+            more = self.members.read([reading_from(start, after(self.keys.whole("q")), self.most)])
+            self.beyond = max(more.entries, default="")
+            self.reader.note(more.entries, are_more=True)
+            some = self.some_of(more, self.workers(found))
+            if some or not more.entries:
+                return some
+        return []
 
     def workers(self, found: Found) -> set[str]:
         """The workers that give signs of life, and this one. The last sign of one that is long gone is deleted."""
@@ -338,15 +362,15 @@ class Worker:
             more, later = self.means.aside.submit(self.jobs, later[:room]), later[room:]
             outcome = self.do_batch(batch)
             outcome.rest.extend(more.result())
-        if len(outcome.ended) < FEW and not outcome.left:
-            self.gather()
+        if len(outcome.ended) < MOST_TOGETHER and not outcome.left:
+            self.gather(len(outcome.ended))
         return outcome.left
 
-    def gather(self) -> None:
-        """If there was such a transaction a moment ago, too, jobs come one by one: some more are waited for."""
+    def gather(self, done: int) -> None:
+        """If there was such a transaction a moment ago, too, jobs come some at a time: some more are waited for."""
         last, self.gathered_at = self.gathered_at, time.monotonic()
         if self.gathered_at - last < MOMENT_SECONDS:
-            time.sleep(GATHER_SECONDS)
+            time.sleep(GATHER_SECONDS if done < FEW else LONG_GATHER_SECONDS)
 
     def do_batch(self, batch: Batch) -> Outcome:
         try:

@@ -1,4 +1,5 @@
 """Trials of `audit --follow`: what happens is checked as it happens, and what no event tells of is refused by name."""
+import json
 import threading
 from functools import partial
 
@@ -13,8 +14,9 @@ from grove_etcd.chain import Left
 from grove_etcd.failures import cut
 from grove_etcd.following import Follower
 from grove_etcd.head import head_text
+from grove_etcd.jobs import Event, Progress, Waiter
 from grove_etcd.keys import Keys
-from grove_etcd.letting_go import drop_all
+from grove_etcd.letting_go import drop_all, let_go
 from grove_etcd.past import Epoch
 from grove_etcd.setting_aside import retry
 from grove_etcd.weighing import reweigh
@@ -138,6 +140,19 @@ def forged_record_of_an_epoch(store):
     store.write(nested(putting(key, Left(99, left.revision, left.hands, left.freed).text())))
 
 
+def a_place_in_line_with_an_end(store):
+    """Whoever hands the node on puts what stands there, which is the progress of a job that has ended."""
+    ended = Progress(3, 3, 1, replies=[1000])
+    age = json.loads(store.read(store.keys.job(store.jobs[3])))["age"]
+    store.write(putting(store.keys.waiter("/b", age, store.jobs[3]), Waiter(0, ended.members()).text()))
+    let_go(store.members, store.keys, store.jobs[2])
+
+
+def an_event_of_nobody(store):
+    told = Event(1, False, {}).text(), Progress(1, 3, 1).text()
+    store.write(nested(putting(store.keys.event("x.0", 0), told[0]), putting(store.keys.progress("x.0"), told[1])))
+
+
 FORGED = {
     "a record": (lambda s: s.write(nested(putting(s.keys.record("/a"), "99"))), "stray-record /a"),
     "the same record": (write_again(Keys.record), "stray-record /a"),
@@ -167,6 +182,12 @@ FORGED = {
     "a stray write": (lambda s: s.do([["add", "/b/c", 1]], kind=Strays), "stray-record /a"),
     "a stray write that is told": (lambda s: s.do([["add", "/b/c", 1]], kind=StraysWithAnEvent), "stray-record /a"),
     "another record than is told": (lambda s: s.do([["add", "/b/c", 1]], kind=TellsAnotherRecord), "stray-record /b/c"),
+    "the same owner": (lambda s: s.write(putting(s.keys.owner("/b"), s.jobs[2])), "left-out /b"),
+    "what a later epoch left": (lambda s: s.write(nested(putting(s.keys.left("/a", 9), "{}"))), "stray-epoch "),
+    "a closed job that is put again": (write_again(Keys.job, 0), "job-rewritten "),
+    "a closed job's replies": (write_again(Keys.progress, 0), "left-out "),
+    "an event of nobody": (an_event_of_nobody, "left-out x.0"),
+    "a place in line with an end": (a_place_in_line_with_an_end, "not-at-its-end "),
     "a job that is done again": (lambda s: between.begin_again(s, s.jobs[1]), "left-out "),
 }
 

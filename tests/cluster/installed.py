@@ -71,13 +71,14 @@ def programs_of_two_versions_work_on_one_store(cluster, grove):
 
 
 def the_wheel_has_the_programs(cluster, grove):
-    """As pip puts its files: a package, and commands that name no Python."""
+    """As pip puts its files: a package, and commands that name no Python, and that may be executed."""
     wheel = cluster_wheel(Source(TOP))
     room = Path(cluster.room.name, "wheel")
     archive = Path(cluster.room.name, wheel.name)
     archive.write_bytes(wheel.content)
     with zipfile.ZipFile(archive) as it:
         it.extractall(room)
+        modes = {each.external_attr >> 16 for each in it.infolist() if ".data/scripts/" in each.filename}
     scripts = next(room.glob("*.data/scripts"))
     document = TOP / "examples/orders.json"
     words = ["--members", cluster.addresses, "--store", "wheel"]
@@ -88,8 +89,9 @@ def the_wheel_has_the_programs(cluster, grove):
     heads = {path.read_text().partition("\n")[0] for path in scripts.iterdir()}
     names = {path.name for path in scripts.iterdir()}
     wanted = {f"grove-{path.name}" for path in (TOP / "cluster").iterdir() if path.is_file() and not path.suffix}
-    is_well = not any(each.returncode for each in told) and heads == {"#!python"} and names == wanted
-    return None if is_well else f"{[(each.returncode, each.stderr) for each in told]}, {heads}, {names ^ wanted}"
+    is_well = not any(each.returncode for each in told) and names == wanted
+    is_well = is_well and (heads, modes) == ({"#!python"}, {0o100755})
+    return None if is_well else f"{[(each.returncode, each.stderr) for each in told]}, {heads, modes}, {names ^ wanted}"
 
 
 def ran(room, scripts, words, command):

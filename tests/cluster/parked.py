@@ -142,6 +142,27 @@ def hundreds_are_under_way(cluster, grove, number):
     return None if came == (True, True, [211], []) else f"{came}"
 
 
+def jobs_beyond_those_that_wait_begin(cluster, grove):
+    """More jobs would wait for a node than a worker looks at, and as many wait as may. Those at another node are done
+    beside them, though they were submitted last."""
+    store = Store(cluster, grove, "beyond", [AT_A])
+    holds = store.attempt(0, patience=10 * SECONDS)
+    held = one_group(holds)
+    put_all(store, "/a", 40, "waits")
+    with mock.patch("grove_etcd.worker.MOST_LOOKED_AT", 8):
+        worker = workers_of(cluster, store, 1, lambda *_: None, most_waiting=3)[0]
+    thread = started([worker])[0]
+    store.await_true(lambda: len(store.left("v")) == 3)
+    store.submitter.put_all([Job(f"free.{number}", 99, [["add", "/b", 1]], plan_at("/b")) for number in range(5)])
+    is_free = store.await_true(lambda: store.records("/b") == [5])
+    waiting = len(store.left("v"))
+    holds.run(held)
+    thread.join()
+    store.audit()
+    came = is_free, waiting, store.records("/a"), store.left("quvs")
+    return None if came == (True, 3, [51], []) else f"came {came}"
+
+
 def no_more_wait_than_are_to(cluster, grove):
     """Of ten that would wait three are begun, and the others can go elsewhere."""
     store = Store(cluster, grove, "most", [AT_A])

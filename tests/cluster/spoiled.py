@@ -100,6 +100,75 @@ def no_work_ends_all_workers(cluster, grove):
     return None
 
 
+def deeper(number):
+    return deeper(number + 1)
+
+
+def raising(why):
+    raise why
+
+
+# Work that a worker's own process survives, by the node at which it is done; and what is said of its job, if anything.
+STRANGE = {
+    "/x0": (lambda _: deeper(0), "RecursionError: "),
+    "/x1": (lambda _: raising(ExceptionGroup("many", [ValueError("x" * 99)] * 9999)), "ExceptionGroup: many"),
+    "/x2": (lambda _: raising(type("E" * 99_999, (Exception,), {})()), "EEEE"),
+    "/x3": (lambda _: raising(GeneratorExit()), "GeneratorExit:"),
+    "/x4": (lambda _: raising(RuntimeError("\ud800\0\x1b[2J" * 9999)), "RuntimeError: ???[2J"),
+    "/x5": (lambda access: access.clear(), None),
+    "/x6": (lambda access: access.__setitem__(2, 1000), None),
+    "/x7": (lambda _: threading.Thread(target=raising, args=(SystemExit("no"),)).start(), None),
+}
+
+
+def no_work_ends_the_worker_it_is_done_by(cluster, grove):
+    """One worker does all of it. What changes the list that it gets changes no job."""
+    store = Store(cluster, grove, "strange", [[["add", path, 1], ["add", path, 1]] for path in STRANGE], WIDE)
+    worker = store.worker(work=lambda access, *_: STRANGE[access[1]][0](access), tries=1)
+    worker.run(until_ended=True)
+    told = {aside.holds[0]: aside.why for _, aside in failed(store.members, store.keys)}
+    fails = {path: why for path, (_, why) in STRANGE.items() if why is not None}
+    wrong = [path for path, why in fails.items() if not told.get(path, "").startswith(why) or len(told[path]) > 4096]
+    list(drop_all(store.members, store.keys, []))
+    store.audit()
+    came = wrong, set(told) - set(fails), store.records(*STRANGE), store.left("oqua")
+    wanted = [], set(), [0 if path in fails else 2 for path in STRANGE], []
+    return None if came == wanted else f"wanted {wanted}; came {came}"
+
+
+# What somebody has put for the line of /a, while a job holds it and others wait: the keys' ends, and their values.
+STRANGE_LINES = {
+    "a job that isn't there": ("00000000000000001/gone.0", ""),
+    "a job that has ended": ("00000000000000001/{ended}", "{}"),
+    "no job": ("x", ""),
+    "a value without a form": ("00000000000000001/gone.0", '{"group":[],"progress":7}'),
+    "a job that is set aside": ("00000000000000001/{aside}", "{"),
+}
+
+
+def no_line_is_stopped_by_what_stands_in_it(cluster, grove):
+    """Those that wait get the node all the same, by the same workers and by others after a restart."""
+    faults = (fault_of_line(cluster, grove, number, name) for number, name in enumerate(STRANGE_LINES))
+    return "; ".join(fault for fault in faults if fault) or None
+
+
+def fault_of_line(cluster, grove, number, name):
+    store = Store(cluster, grove, f"lines-{number}", [[["add", "/a-d", 1]]])
+    store.work()
+    put_job(store, "aside.0", "{")
+    store.submit(*([[["add", "/a", 1]]] * 4))
+    holds, first = store.attempt(1, patience=PATIENCE), store.attempt(2, patience=PATIENCE)
+    held = one_group(holds)
+    one_group(first)
+    end, value = STRANGE_LINES[name]
+    end = end.format(ended=store.jobs[0], aside="aside.0")
+    store.write(putting(store.keys.waiters("/a") + end, value))
+    holds.run(held)
+    store.work(work=lambda *_: None, patience=PATIENCE)
+    came = store.records("/a"), store.left("qu")
+    return None if came == ([14], []) else f"{name}: came {came}"
+
+
 def fault_of_work(cluster, grove, function, wanted, number):
     lists = [[["add", "/a", 1]], [["add", "/b", 1]]]
     counted = Counted(cluster, grove, f"{function}-{number}".replace("_", "-"), lists, 0)
