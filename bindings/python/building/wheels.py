@@ -147,6 +147,11 @@ def digest_of(content: bytes) -> str:
     return base64.urlsafe_b64encode(hashlib.sha256(content).digest()).rstrip(b"=").decode()
 
 
+def mode_of(name: str) -> int:
+    """A plain file that its owner may write and all may read; of a command one that all may execute. pip keeps that."""
+    return 0o100755 if ".data/scripts/" in name else 0o100644
+
+
 def zipped(files: Dict[str, bytes], date: int) -> bytes:
     """An archive of the files in this order, all of one date."""
     packed = io.BytesIO()
@@ -154,8 +159,8 @@ def zipped(files: Dict[str, bytes], date: int) -> bytes:
     with zipfile.ZipFile(packed, "w", zipfile.ZIP_DEFLATED, compresslevel=9) as archive:
         for name, content in files.items():
             entry = zipfile.ZipInfo(name, (year, month, day, hour, minute, second))
-            # As made by Unix: a plain file that its owner may write and all may read.
-            entry.create_system, entry.external_attr = 3, 0o100644 << 16
+            # As made by Unix.
+            entry.create_system, entry.external_attr = 3, mode_of(name) << 16
             entry.compress_type = zipfile.ZIP_DEFLATED
             archive.writestr(entry, content)
     return packed.getvalue()

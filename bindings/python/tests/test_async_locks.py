@@ -10,6 +10,7 @@ from typing import Any, Dict, List, Tuple
 
 from pickbracken import AsyncLocks, BadPath, Nested, TimedOut, Unfinished
 
+from histories import JOBS, History
 from serial_order import LEAVES, TRANSACTIONS, WEIGHTS, Records, Run, drawn_paths
 from test_locks import A, B, C, Broken, undo
 
@@ -37,6 +38,23 @@ class Closed(Lock):
     async def acquire(self) -> bool:
         await asyncio.sleep(0)
         return False
+
+
+class Noted(Lock):
+    """One that notes in a history that it is taken and released."""
+
+    def __init__(self, history: History, path: str) -> None:
+        super().__init__(path)
+        self.history = history
+
+    async def acquire(self) -> bool:
+        taken = await super().acquire()
+        self.history.note("lock", self.path)
+        return taken
+
+    async def release(self) -> None:
+        self.history.note("unlock", self.path)
+        await super().release()
 
 
 def held(locks: AsyncLocks) -> List[str]:
@@ -144,6 +162,51 @@ class Stress(unittest.TestCase):
         with self.assertRaises((AssertionError, KeyError)):
             asyncio.run(stress(locks, records, TASKS))
             self.assertEqual(records.fault(), "")
+
+
+async def do_job(locks: AsyncLocks, history: History, drawn: random.Random) -> None:
+    """A transaction that is a job of a history, which sometimes is broken off, late, left early or cancelled."""
+    history.job()
+    paths, kind = drawn_paths(drawn), drawn.random()
+    stop = drawn.randrange(len(paths)) if kind < 0.06 else -1
+    timeout = drawn.random() * 0.01 if 0.06 <= kind < 0.1 else None
+    try:
+        async with locks.transaction(paths, timeout, whole=kind < 0.02) as accesses:
+            async for number, path in accesses:
+                before = history.numbers[path]
+                if drawn.random() < 0.2:
+                    await asyncio.sleep(0)
+                history.add(path, 1 + number, before)
+                if number == stop and kind < 0.04:
+                    raise Broken
+                if number == stop:
+                    break
+    except (Broken, TimedOut, Unfinished):
+        pass
+
+
+async def do_jobs(locks: AsyncLocks, history: History, drawn: random.Random) -> int:
+    """Jobs of tasks, of which some are cancelled; gives how many were."""
+    history.begin()
+    seeds = [drawn.randrange(2**32) for _ in range(JOBS)]
+    tasks = [asyncio.ensure_future(do_job(locks, history, random.Random(seed))) for seed in seeds]
+    for _ in range(5):
+        await asyncio.sleep(drawn.random() * 0.002)
+        drawn.choice(tasks).cancel()
+    ends = await asyncio.gather(*tasks, return_exceptions=True)
+    assert not [end for end in ends if isinstance(end, Exception)], ends
+    return sum(isinstance(end, asyncio.CancelledError) for end in ends)
+
+
+class Histories(unittest.TestCase):
+    def test_runs_are_histories_that_an_audit_accepts(self) -> None:
+        history, cancelled = History(), 0
+        locks = AsyncLocks(WEIGHTS, lambda path: Noted(history, path))
+        for part in range(max(TRANSACTIONS // JOBS, 1)):
+            cancelled += asyncio.run(do_jobs(locks, history, random.Random(part)))
+            self.assertTrue(history.audited().startswith("order ["))
+            locks.reweigh()
+        self.assertTrue(cancelled)
 
 
 class Transactions(unittest.IsolatedAsyncioTestCase):

@@ -17,6 +17,7 @@ from pickbracken import lists, shapes
 from pickbracken.locks import AnyLock
 from pickbracken.weights import new_weight
 
+from histories import JOBS, History
 from serial_order import LEAVES, TRANSACTIONS, WEIGHTS, Records, Run, drawn_paths
 
 THREADS = 16
@@ -106,6 +107,98 @@ def transact(locks: Locks, records: Records, drawn: random.Random) -> None:
 def undo(records: Records, run: Run) -> None:
     for path, amount, _ in run.done[::-1]:
         records.add(run, path, -amount, records.numbers[path])
+
+
+class Noted:
+    """A lock that notes in a history that it is taken and released."""
+
+    def __init__(self, history: History, path: str) -> None:
+        self.history, self.path, self.lock = history, path, threading.Lock()
+
+    def acquire(self, blocking: bool = True, timeout: float = -1, /) -> bool:
+        taken = self.lock.acquire(blocking, timeout)
+        if taken:
+            self.history.note("lock", self.path)
+        return taken
+
+    def release(self) -> None:
+        self.history.note("unlock", self.path)
+        self.lock.release()
+
+
+class Unlocked(Noted):
+    """One that notes the same, and never locks."""
+
+    def acquire(self, blocking: bool = True, timeout: float = -1, /) -> bool:
+        self.history.note("lock", self.path)
+        return True
+
+    def release(self) -> None:
+        self.history.note("unlock", self.path)
+
+
+def do_job(locks: Locks, history: History, drawn: random.Random) -> None:
+    """A transaction that is a job of a history, which sometimes is broken off, late or left early."""
+    history.job()
+    paths, kind = drawn_paths(drawn), drawn.random()
+    stop = drawn.randrange(len(paths)) if kind < 0.06 else -1
+    timeout = drawn.random() * 0.001 if 0.06 <= kind < 0.1 else None
+    try:
+        with locks.transaction(paths, timeout, whole=kind < 0.02) as accesses:
+            for number, path in accesses:
+                before = history.numbers[path]
+                if drawn.random() < 0.05:
+                    time.sleep(0)
+                history.add(path, 1 + number, before)
+                if number == stop and kind < 0.04:
+                    raise Broken
+                if number == stop:
+                    break
+    except (Broken, TimedOut, Unfinished):
+        pass
+
+
+class Histories(unittest.TestCase):
+    """Of each job the steps that were taken are a legal plan for the accesses that were done, of a transaction that
+    failed, too."""
+
+    def test_runs_are_histories_that_an_audit_accepts(self) -> None:
+        history = History()
+        locks = Locks(WEIGHTS, lambda path: Noted(history, path))
+        with switching_often():
+            for part in range(max(TRANSACTIONS // JOBS, 1)):
+                self.run_some(locks, history, part)
+                self.assertEqual(len(history.jobs), JOBS)
+                self.assertTrue(history.audited().startswith("order ["))
+        self.assertTrue(any(node.waits for node in locks.nodes.values()))
+
+    def run_some(self, locks: Locks, history: History, part: int) -> None:
+        def some(number: int) -> None:
+            drawn = random.Random(THREADS * part + number)
+            for _ in range(JOBS // THREADS):
+                do_job(locks, history, drawn)
+
+        history.begin()
+        in_threads(some)
+        locks.reweigh()
+
+    def test_a_list_that_is_done_whole_is_done_by_its_settled_plan(self) -> None:
+        history, drawn = History(), random.Random(1)
+        locks = Locks(WEIGHTS, lambda path: Noted(history, path))
+        tree = Tree.from_paths(locks.weights())
+        for _ in range(200):
+            job, paths = history.job(), drawn_paths(drawn)
+            locks.run(paths, lambda number, path: history.add(path, 1, history.numbers[path]))
+            settled = plan(tree, [Access.get(path) for path in paths]).steps
+            self.assertEqual(job.steps, [(step.kind.value, step.of) for step in settled])
+
+    def test_locks_that_do_not_lock_are_refused(self) -> None:
+        history = History()
+        locks = Locks(WEIGHTS, lambda path: Unlocked(history, path))
+        with switching_often():
+            self.run_some(locks, history, 0)
+        with self.assertRaises(Refused):
+            history.audited()
 
 
 class Stress(unittest.TestCase):
