@@ -1,7 +1,7 @@
 -- One element more of what a loop puts.
 use Rattle.std.proofs.Common.{◌≡◌, ℕ, zero, suc, ◌+◌, ◌^◌, ◌<◌, ◌≤◌, ℤ, List, [], ◌∷◌, ◌++◌, length, take, get_or, map}
-use Rattle.std.proofs.Common.{Option, Result, Ok, Err, IfOk, IfErr, pos, refl, sym, ap, ap₂, subst, ◌∙◌, arith, append_assoc}
-use Rattle.std.proofs.Common.{add-one, Fits}
+use Rattle.std.proofs.Common.{Option, Result, Ok, Err, IfOk, IfErr, pos, refl, sym, ap, ap₂, subst, ◌∙◌, arith}
+use Rattle.std.proofs.Common.{append_assoc, add-one, Fits}
 use Rattle.std.specs.Prelude.{All, FitsSigned, Vec}
 use Rattle.std.specs.Result.{IsErrAnd}
 use Rattle.std.specs.Str.{IsUtf8}
@@ -16,8 +16,8 @@ use Rattle.grove_tree.specs.Trees.{Rows, parent_of, name_of, weight_of}
 use Rattle.grove_tree.specs.Weights.{unweighed}
 use Rattle.grove_tree.specs.BuiltRows.{rows_of}
 use Rattle.grove_tree.specs.declared.fault.TreeFault.{TreeFault}
-use Rattle.grove_tree.specs.declared.fault.TreeFault.TheVariants.{Empty, TooMany, BadParent, TooDeep, BadName, TwiceNamed}
-use Rattle.grove_tree.specs.declared.fault.TreeFault.TheVariants.{BadWeight, Memory as no_tree}
+use Rattle.grove_tree.specs.declared.fault.TreeFault.TheVariants.{Empty, TooMany, BadParent, TooDeep, BadName}
+use Rattle.grove_tree.specs.declared.fault.TreeFault.TheVariants.{TwiceNamed, BadWeight, Memory as no_tree}
 use Rattle.grove_tree.specs.declared.row.Row.{Row}
 use Rattle.grove_effects.specs.Snapshots.{Names, named_of, names_of}
 use Rattle.grove_effects.specs.declared.snapshot.NodeName.{NodeName}

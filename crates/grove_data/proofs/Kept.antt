@@ -73,6 +73,13 @@ stands_next payloads next before after kept numbers names is_kept are is_names s
     hold (inr is) = subst (λ (l : List ℕ). Hold next (unweighed after.rows) l) are
         (subst (λ (ps : List (List ℕ)). Hold ps (unweighed after.rows) numbers) (sym is) whole)
 
+-- an effect that was put where nothing stood
+pub effect_put : {start out first second old new : List ℕ} → out ≡ start ++ effect first second → start ≡ []
+    → first ≡ old → second ≡ new → out ≡ effect old new
+effect_put {start} {out} {first} {second} {old} {new} is none firsts seconds =
+    is ∙ ap (λ (l : List ℕ). l ++ effect first second) none ∙ ap (λ (l : List ℕ). effect l second) firsts
+    ∙ ap (λ (l : List ℕ). effect old l) seconds
+
 module _ {D : Type 0} (moment : D → ℕ) (left_since : D → ℕ → List ℕ → Type 0) where
   -- what is left has a weaker property too
   pub weaker : (old new : D) (P Q : List ℕ → Type 0) → ((c : List ℕ) → P c → Q c)
@@ -136,27 +143,42 @@ module _ {D : Type 0} (seen : D → List ℕ) (may_leave : D → List ℕ → Ty
         (ap length are ∙ as_many before after next ∙ sym (ap length keeps.numbers)) fit keeps.stands are_next
 
     -- a file that a crash leaves opens as the store before, whichever that is called, or as the next one
-    pub opens_either : (other : StoreState) → Keeps seen may_leave faults held other → (file : List ℕ)
+    opens_either : (other : StoreState) → Keeps seen may_leave faults held other → (file : List ℕ)
         → IsOldOrNext old (effect held.kept.items numbers) (held.names.items ++ flat_map word numbers) file
         → OpensWith (λ left. (left ≡ other) ⊎ (left ≡ after)) file
     opens_either other kept file (inl for) = (other, opens old file other kept.is_store kept.stands for, inl refl)
     opens_either other kept file (inr (payloads, are_next, for)) =
         (after, opens payloads file after next.new (written payloads are_next) for, inr refl)
 
-    -- once they are written, the next store is kept
-    pub kept_next : (new : Data D) → IsTrue new.log.accepts → IsSettled seen may_leave faults new.log
-        → AreNext old (effect held.kept.items numbers) (held.names.items ++ flat_map word numbers)
-        (recovered (seen (device_of new))) → new.names ≡ held.names → new.kept.items ≡ numbers
-        → Keeps seen may_leave faults new after
-    kept_next new accepts settled are_next names kept = record {
-      accepts = accepts;
-      settled = settled;
-      is_store = next.new;
-      stands = written (recovered (seen (device_of new))) are_next;
-      names = ap (λ (v : Vec ℕ Global). v.items) names ∙ keeps.names
-          ∙ ap (λ (n : Names). snapshot n []) (sym next.names);
-      numbers = kept ∙ are;
-    }
+    module _ {payload : List ℕ} (is : payload ≡ effect held.kept.items numbers) where
+      abbrev whole : List ℕ
+      whole = held.names.items ++ flat_map word numbers
+
+      -- whatever a write leaves opens so
+      pub leaves_either : (moment : D → ℕ) (left_since : D → ℕ → List ℕ → Type 0) (new : D) (other : StoreState)
+          → Keeps seen may_leave faults held other
+          → LeavesOnly moment left_since (device_of held) new (IsOldOrNext old payload whole)
+          → LeavesOnly moment left_since (device_of held) new (OpensWith (λ left. (left ≡ other) ⊎ (left ≡ after)))
+      leaves_either moment left_since new other kept =
+          weaker moment left_since (device_of held) new (IsOldOrNext old payload whole)
+          (OpensWith (λ (left : StoreState). (left ≡ other) ⊎ (left ≡ after)))
+          (λ file left. opens_either other kept file
+          (subst (λ (l : List ℕ). IsOldOrNext old l whole file) is left))
+
+      -- once it is written, the next store is kept
+      pub kept_next : (new : Data D) → IsTrue new.log.accepts → IsSettled seen may_leave faults new.log
+          → AreNext old payload whole (recovered (seen (device_of new))) → new.names ≡ held.names
+          → new.kept.items ≡ numbers → Keeps seen may_leave faults new after
+      kept_next new accepts settled are_next names kept = record {
+        accepts = accepts;
+        settled = settled;
+        is_store = next.new;
+        stands = written (recovered (seen (device_of new)))
+            (subst (λ (l : List ℕ). AreNext old l whole (recovered (seen (device_of new)))) is are_next);
+        names = ap (λ (v : Vec ℕ Global). v.items) names ∙ keeps.names
+            ∙ ap (λ (n : Names). snapshot n []) (sym next.names);
+        numbers = kept ∙ are;
+      }
 
     -- effects and snapshots are short
     pub effect_fits : length (effect held.kept.items numbers) < 2 ^ 32

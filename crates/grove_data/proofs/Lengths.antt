@@ -39,10 +39,17 @@ nothing [] none = refl
 nothing (x ∷ xs) none = absurd (omega arith)
 
 -- an effect is empty only where nothing changed
-pub unchanged : (old new : List ℕ) → length old ≡ length new → length (effect old new) ≡ 0 → old ≡ new
+unchanged : (old new : List ℕ) → length old ≡ length new → length (effect old new) ≡ 0 → old ≡ new
 unfolding effect
 unchanged old new long none = changes_none 0 old new long
     (nothing (changes old new) (omega (arith, changes_long (changes old new))))
+
+-- so numbers with an empty effect are the old ones, by whatever name
+pub unchanged_numbers : {kept next old new payload : List ℕ} → kept ≡ old → next ≡ new → length new ≡ length old
+    → payload ≡ effect kept next → length payload ≡ 0 → new ≡ old
+unchanged_numbers {kept} {next} {old} {new} {payload} are_old are_new long is empty =
+    let as_long : length kept ≡ length next = omega (arith, ap length are_old, ap length are_new, long) in
+    sym are_new ∙ sym (unchanged kept next as_long (sym (ap length is) ∙ empty)) ∙ are_old
 
 -- numbers take 8 bytes
 pub words_long : (numbers : List ℕ) → length (flat_map word numbers) ≡ 8 * length numbers

@@ -1,10 +1,9 @@
 -- Stores with the same names, numbers and workers are the same.
-use Rattle.std.proofs.Common.{◌≡◌, ℕ, zero, suc, ◌+◌, ◌-◌, ◌*◌, ◌<◌, inl, inr, ℤ, List, [], ◌∷◌, ◌++◌, length, take, drop, get_or, map, Option, Some}
-use Rattle.std.proofs.Common.{refl, sym, ap, ap₂, arith, append_assoc, ◌∙◌}
+use Rattle.std.proofs.Common.{◌≡◌, ℕ, zero, suc, ◌+◌, ◌-◌, ◌*◌, ℤ, List, [], ◌∷◌, ◌++◌, length, take, drop, get_or, map}
+use Rattle.std.proofs.Common.{Option, Some, refl, sym, ap, ap₂, arith, append_assoc, ◌∙◌}
 use Rattle.std.specs.Prelude.{All, FitsSigned}
 use Rattle.std.specs.Int.{w64, cast_signed}
 use Rattle.std.specs.List.{slice_get}
-use Rattle.std.proofs.lemmas.Bool.{cases_lt}
 use Rattle.std.proofs.lemmas.Int.{to_z-of_z}
 use Rattle.std.proofs.lemmas.List.{length-append, length-map, length-drop, take_at, drop_at, take-append-drop}
 use Rattle.std.proofs.lemmas.List.Elements.{All-head, All-tail}
@@ -12,7 +11,7 @@ use Rattle.grove_base.proofs.Lists.{read_at}
 use Rattle.grove_tree.specs.Trees.{Rows, NodeRow}
 use Rattle.grove_tree.specs.Weights.{unweighed}
 use Rattle.grove_tree.proofs.SameNames.{length-unweighed}
-use Rattle.grove_store.specs.StoreStates.{StoreState, IsStore, IsSuccessor}
+use Rattle.grove_store.specs.StoreStates.{StoreState, IsStore}
 use Rattle.grove_data.specs.Numbers.{weights_of, bits_of, numbers_of}
 use Rattle.grove_data.specs.Parts.{HasForm}
 use Rattle.grove_data.proofs.Splitting.{AreSame, same_numbers}
@@ -114,7 +113,7 @@ last_at (x ∷ front) last zero d at = absurd (omega arith)
 last_at (x ∷ front) last (suc i) d at = last_at front last i d (omega arith)
 
 -- the count of rounds stands last
-pub rounds_last : (store : StoreState) → IsStore store → (i d : ℕ) → i ≡ 3 * length store.rows
+rounds_last : (store : StoreState) → IsStore store → (i d : ℕ) → i ≡ 3 * length store.rows
     → get_or (numbers_of store) i d ≡ store.rounds
 unfolding numbers_of
 rounds_last store is i d at =
@@ -204,30 +203,11 @@ form_of store is = (
 
 -- numbers that are put together from a store's parts are its own
 pub joined : (store : StoreState) (numbers w b h : List ℕ) (k : ℕ) → weights_of store.rows ≡ w
-    → bits_of store.records ≡ b → store.waits ≡ h → store.rounds ≡ k → w ++ b ++ h ++ k ∷ [] ≡ numbers → numbers_of store ≡ numbers
+    → bits_of store.records ≡ b → store.waits ≡ h → store.rounds ≡ k → w ++ b ++ h ++ k ∷ [] ≡ numbers
+    → numbers_of store ≡ numbers
 unfolding numbers_of
 joined store numbers w b h k first second third last whole =
     ap (λ (l : List ℕ). l ++ bits_of store.records ++ store.waits ++ store.rounds ∷ []) first
     ∙ ap (λ (l : List ℕ). w ++ l ++ store.waits ++ store.rounds ∷ []) second
     ∙ ap (λ (l : List ℕ). w ++ b ++ l ++ store.rounds ∷ []) third
     ∙ ap (λ (n : ℕ). w ++ b ++ h ++ n ∷ []) last ∙ whole
-
-module _ (before after : StoreState) (next : IsSuccessor before after) (kept : List ℕ)
-    (are : kept ≡ numbers_of before) (n : ℕ) (at : n ≡ length after.rows) where
-  same : n ≡ length before.rows
-  same = at ∙ same_length after.rows before.rows next.names
-
-  pub next_long : length kept ≡ 3 * n + 1
-  next_long = omega (arith, ap length are, numbers_long before next.old, same)
-
-  -- after a further round the weights are those that are kept
-  pub next_weights : (d : ℕ) → (get_or kept (3 * n) d ≡ after.rounds → ⊥) → take n kept ≡ weights_of after.rows
-  next_weights d other =
-      let last : get_or kept (3 * n) d ≡ before.rounds =
-      ap (λ (l : List ℕ). get_or l (3 * n) d) are ∙ rounds_last before next.old (3 * n) d (ap (λ (m : ℕ). 3 * m) same) in
-      let differ : before.rounds ≡ after.rounds → ⊥ = λ e. other (last ∙ e) in
-      let more : before.rounds < after.rounds = elim (cases_lt before.rounds after.rounds) [
-        | inl less ↦ less
-        | inr not_less ↦ absurd (differ (omega (arith, next.rises)))
-      ] in
-      ap (take n) are ∙ weights_first before n same ∙ sym (ap weights_of (next.weights more))

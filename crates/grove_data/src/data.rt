@@ -1,16 +1,21 @@
 //! A store's file while it is open: each round is in it before the round's lines have replies.
-ghost use Rattle.std.specs.Prelude.{◌≡◌, ℕ, List, ◌<◌, ◌+◌, ◌*◌, ◌^◌, ◌⊎◌, ◌++◌, IsTrue, IfOk, OnOk, length};
+ghost use Rattle.std.specs.Prelude.{◌≡◌, ℕ, List, [], ◌<◌, ◌+◌, ◌*◌, ◌^◌, ◌⊎◌, ◌++◌, IsTrue, IfOk, OnOk, length};
+ghost use Rattle.std.specs.Prelude.{All, FitsSigned};
+ghost use Rattle.std.specs.Int.{w64};
 ghost use Rattle.std.specs.List.{flat_map};
 ghost use Rattle.grove_log.specs.Devices.{Only, LeavesOnly};
 ghost use Rattle.grove_log.specs.Files.{recovered};
 ghost use Rattle.grove_log.specs.Logs.{IsSettled};
+ghost use Rattle.grove_tree.specs.Weights.{unweighed};
 ghost use Rattle.grove_effects.specs.Effects.{word};
-ghost use Rattle.grove_store.specs.StoreStates.{StoreState, IsSuccessor};
+ghost use Rattle.grove_effects.specs.Snapshots.{snapshot};
+ghost use Rattle.grove_store.specs.StoreStates.{StoreState, IsStore, IsSuccessor};
+ghost use Rattle.grove_data.specs.Numbers.{numbers_of};
 ghost use Rattle.grove_data.specs.Files.{OpensAs, OpensWith, IsOldOrOpens};
 ghost use Rattle.grove_data.specs.Parts.{AreNext, IsOldOrNext};
 
 use crate::naming::names_of;
-use crate::numbers::{put_next_numbers, put_numbers};
+use crate::numbers::put_numbers;
 use grove_base::NoMemory;
 use grove_effects::{push_effect, push_names, push_numbers};
 use grove_log::{Folder, Log, LogError, Seal};
@@ -47,6 +52,14 @@ pub struct Data<F: Folder> {
     failure: Option<LogError>,
 }
 
+/// What a file begins with: a snapshot, with its names and its numbers.
+#[derive(Drop)]
+struct Opening {
+    names: Vec<u8>,
+    numbers: Vec<u64>,
+    payload: Vec<u8>,
+}
+
 /// A snapshot of names, which are bytes already, and numbers.
 fn put_snapshot(out: &mut Vec<u8>, names: &[u8], numbers: &[u64]) -> Result<(), NoMemory>
     ensures { OnOk result (out.new.items ≡ names.now ++ flat_map word numbers.now) }
@@ -54,6 +67,27 @@ fn put_snapshot(out: &mut Vec<u8>, names: &[u8], numbers: &[u64]) -> Result<(), 
     out.clear();
     out.extend_from_slice(names)?;
     push_numbers(out, numbers)
+}
+
+/// What a file that stands for this store begins with.
+fn opening_of(alloc: Global, store: &Store) -> Result<Opening, NoMemory>
+    ensures store { IfOk result (λ _. IsStore store.now × All (FitsSigned w64) store.now.records) }
+    ensures names { IfOk result (λ made. made.names.items ≡ snapshot (unweighed store.now.rows) []) }
+    ensures numbers { IfOk result (λ made. made.numbers.items ≡ numbers_of store.now) }
+    ensures payload { IfOk result (λ made. made.payload.items
+        ≡ made.names.items ++ flat_map word made.numbers.items) }
+{
+    let mut names = Vec::new(alloc);
+    push_names(&mut names, &names_of(alloc, store.tree())?)?;
+    let mut numbers = Vec::new(alloc);
+    put_numbers(&mut numbers, store)?;
+    let mut payload = Vec::new(alloc);
+    put_snapshot(&mut payload, &names, &numbers)?;
+    Ok(Opening {
+        names,
+        numbers,
+        payload,
+    })
 }
 
 impl<F: Folder> Data<F> {
@@ -127,7 +161,7 @@ impl<F: Folder> Data<F> {
             (OpensWith (λ left. (left ≡ before) ⊎ (left ≡ store.now))) }
     {
         self.next.clear();
-        put_next_numbers(&mut self.next, &self.kept, store)?;
+        put_numbers(&mut self.next, store)?;
         self.payload.clear();
         push_effect(&mut self.payload, &self.kept, &self.next)?;
         if self.payload.is_empty() {
@@ -157,12 +191,11 @@ impl<F: Folder + Drop> Data<F> {
         ensures any_moment { IfOk result (λ made. LeavesOnly F.moment F.left_since device (device_of made)
             (IsOldOrOpens (F.seen device) store.now)) }
     {
-        let mut names = Vec::new(alloc);
-        push_names(&mut names, &names_of(alloc, store.tree())?)?;
-        let mut kept = Vec::new(alloc);
-        put_numbers(&mut kept, store)?;
-        let mut payload = Vec::new(alloc);
-        put_snapshot(&mut payload, &names, &kept)?;
+        let Opening {
+            names,
+            numbers,
+            payload,
+        } = opening_of(alloc, store)?;
         let mut log = Log {
             device,
             seal: *number,
@@ -173,7 +206,7 @@ impl<F: Folder + Drop> Data<F> {
         Ok(Data {
             log,
             names,
-            kept,
+            kept: numbers,
             next: Vec::new(alloc),
             payload,
             snapshot,

@@ -1,7 +1,6 @@
 //! The numbers of a store.
 ghost use Rattle.std.specs.Prelude.{◌≡◌, ◌++◌, [], length, All, OnOk, FitsSigned};
 ghost use Rattle.std.specs.Int.{w64};
-ghost use Rattle.grove_store.specs.StoreStates.{StoreState, IsSuccessor};
 ghost use Rattle.grove_data.specs.Numbers.{weights_of, bits_of, numbers_of};
 
 use grove_access::Records;
@@ -40,45 +39,16 @@ fn put_waits(out: &mut Vec<u64>, waits: &[u32]) -> Result<(), NoMemory>
     Ok(())
 }
 
-/// Puts what stands behind the weights.
-#[tactic(auto, unfolding(crate::specs::Numbers::numbers_of))]
-fn put_rest(out: &mut Vec<u64>, store: &Store) -> Result<(), NoMemory>
-    requires { out.old.items ≡ weights_of store.now.rows }
-    ensures numbers { OnOk result (out.new.items ≡ numbers_of store.now) }
-    ensures fit { OnOk result (All (FitsSigned w64) store.now.records) }
-{
-    put_records(out, store.records(), store.tree().len())?;
-    put_waits(out, store.waits())?;
-    out.push(store.rounds())?;
-    Ok(())
-}
-
 /// Puts all numbers of a store where nothing stands.
+#[tactic(auto, unfolding(crate::specs::Numbers::numbers_of))]
 pub(crate) fn put_numbers(out: &mut Vec<u64>, store: &Store) -> Result<(), NoMemory>
     requires { out.old.items ≡ [] }
     ensures numbers { OnOk result (out.new.items ≡ numbers_of store.now) }
     ensures fit { OnOk result (All (FitsSigned w64) store.now.records) }
 {
     put_weights(out, store.tree())?;
-    put_rest(out, store)
-}
-
-/// Puts all numbers of a store where nothing stands. Those of the store before it are known: after a further round its
-/// weights are the same, and are copied.
-pub(crate) fn put_next_numbers(
-    out: &mut Vec<u64>,
-    kept: &[u64],
-    store: &Store,
-) -> Result<(), NoMemory>
-    requires empty { out.old.items ≡ [] }
-    requires kept { (before : StoreState) × (kept.now ≡ numbers_of before) × IsSuccessor before store.now }
-    ensures numbers { OnOk result (out.new.items ≡ numbers_of store.now) }
-    ensures fit { OnOk result (All (FitsSigned w64) store.now.records) }
-{
-    let nodes = store.tree().len() as usize;
-    if kept[3 * nodes] == store.rounds() {
-        return put_numbers(out, store);
-    }
-    out.extend_from_slice(&kept[..nodes])?;
-    put_rest(out, store)
+    put_records(out, store.records(), store.tree().len())?;
+    put_waits(out, store.waits())?;
+    out.push(store.rounds())?;
+    Ok(())
 }

@@ -131,7 +131,8 @@ snapshot_is bytes rest tail nodes numbers count few long named words is rest_is 
       named = named;
       words = words;
       stands = is
-          ∙ ap (λ (l : List ℕ). half count ++ l) (rest_is ∙ ap (λ (l : List ℕ). flat_map named_bytes names ++ l) tail_is)
+          ∙ ap (λ (l : List ℕ). half count ++ l)
+          (rest_is ∙ ap (λ (l : List ℕ). flat_map named_bytes names ++ l) tail_is)
           ∙ ap (λ (n : ℕ). half n ++ (flat_map named_bytes names ++ flat_map word numbers)) (sym long_names)
           ∙ sym (whole names numbers);
     }

@@ -9,8 +9,8 @@ use Rattle.grove_data.proofs.numbers.put_records.Goals as goal
 pub loop-number-preserved : goal.loop-number-preserved
 loop-number-preserved c =
     let fits : FitsSigned w64 c.get.result = search rules in
-    put_record c.args.out.now.items c.loop-number.out.items c.push.new.self.items c.args.records.now c.loop-number.number
-    c.cast_unsigned.result c.get.result (omega (arith, c.loop-number-test.true, c.requires)) fits
+    put_record c.args.out.now.items c.loop-number.out.items c.push.new.self.items c.args.records.now
+    c.loop-number.number c.cast_unsigned.result c.get.result (omega (arith, c.loop-number-test.true, c.requires)) fits
     (c.get.ensures ∙ ap (record_at c.args.records.now) c.new.ensures)
     (c.cast_unsigned.ensures ∙ ap (cast_unsigned w64) (to_z-of_z w64 c.get.result fits))
     c.loop-number.invariant

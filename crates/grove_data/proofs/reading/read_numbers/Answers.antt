@@ -7,7 +7,8 @@ use Rattle.grove_data.proofs.reading.read_numbers.Goals as goal
 
 pub returns-then-not-has_form-clause-unfit : goal.returns-then-not-has_form-clause-unfit
 returns-then-not-has_form-clause-unfit c = λ names numbers held are form.
-    let s = begun c.args.payloads names numbers c.in-Some.first.now c.next_payload.new.self held are c.in-Some.ensures in
+    let s =
+    begun c.args.payloads names numbers c.in-Some.first.now c.next_payload.new.self held are c.in-Some.ensures in
     let read = c.in_ok-snapshot.snapshot in
     let o = c.in_ok-snapshot.ensures.only names s.first s.is in
     let named = ap (λ (l : Names). length l) o.0 in

@@ -29,7 +29,8 @@ returns-in_err-tree-clause-unfit c =
     let at : n ≡ length nodes = search rules in
     let w = c.split_at.result.0.now in
     passes c.from_residual.result c.in_err-tree.field-0.0 _ c.from_residual.ensures.1
-    (for_more ((rows : Rows) → AreTreeRows rows → unweighed rows ≡ names_of c.deref-2.result.now → weights_of rows ≡ w → ⊥)
+    (for_more
+    ((rows : Rows) → AreTreeRows rows → unweighed rows ≡ names_of c.deref-2.result.now → weights_of rows ≡ w → ⊥)
     ((other : StoreState) → IsStore other → unweighed other.rows ≡ names_of nodes → numbers_of other ≡ numbers → ⊥)
     c.in_err-tree.field-0.0
     (λ p other is named numbered. p other.rows (is.tree, is.limits)

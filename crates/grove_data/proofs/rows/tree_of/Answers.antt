@@ -38,5 +38,6 @@ returns-in_err-build-clause-unfit c =
     (tree_refused fault Q (λ other rows are named weighed. c.in_err-build.ensures.refused other
     (subst AreTreeRows (same_rows rows (rows_of built)
     (named ∙ sym (ap (λ (l : List Row). unweighed (rows_of l)) c.deref.ensures.value ∙ c.in_ok-rows.ensures.names))
-    (weighed ∙ sym (ap (λ (l : List Row). weights_of (rows_of l)) c.deref.ensures.value ∙ c.in_ok-rows.ensures.weights)))
+    (weighed
+    ∙ sym (ap (λ (l : List Row). weights_of (rows_of l)) c.deref.ensures.value ∙ c.in_ok-rows.ensures.weights)))
     are)))

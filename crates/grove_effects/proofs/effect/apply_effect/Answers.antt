@@ -4,7 +4,9 @@ use Rattle.grove_effects.proofs.Leading.{led_first, can_follow, led_on, led_effe
 use Rattle.grove_effects.proofs.effect.apply_effect.Goals as goal
 use Rattle.grove_effects.proofs.effect.apply_effect.Goals.{then-place-from-via-then-place-from}
 use Rattle.grove_effects.proofs.effect.apply_effect.Goals.{then-place-from-via-else-place-from+then-place-numbers}
-use Rattle.grove_effects.proofs.effect.apply_effect.Goals.{then-place-from-via-else-place-from+else-place-numbers+then-numbers-place}
+use Rattle.grove_effects.proofs.effect.apply_effect.Goals.{
+  then-place-from-via-else-place-from+else-place-numbers+then-numbers-place,
+}
 
 pub loop-rest-init : goal.loop-rest-init
 loop-rest-init c = led_first c.args.numbers.now c.args.bytes.now
