@@ -17,13 +17,13 @@ use Rattle.grove_desk.specs.Histories.{IsDeskReceipt, receipts_in}
 use Rattle.grove_desk.specs.Ledgers.{JournalState, noted_in, next_number, IsJournal, IsJournalOf, IsAccount}
 
 -- a round more at the end has no store before the first of the others
-before_more : (rounds : List RoundState) (round : RoundState) (last : StoreState)
+pub before_more : (rounds : List RoundState) (round : RoundState) (last : StoreState)
     → store_before (rounds ++ round ∷ []) last ≡ store_before rounds round.before
 before_more [] round last = refl
 before_more (first ∷ rounds) round last = refl
 
 -- rounds lead on through a round more
-leads_more : (rounds : List RoundState) (round : RoundState) (last : StoreState) → Leads rounds round.before
+pub leads_more : (rounds : List RoundState) (round : RoundState) (last : StoreState) → Leads rounds round.before
     → IsRound round.before round.receipts last → Leads (rounds ++ round ∷ []) last
 leads_more [] round last leads is = (is, tt)
 leads_more (first ∷ rounds) round last leads is = (
@@ -32,7 +32,7 @@ leads_more (first ∷ rounds) round last leads is = (
 )
 
 -- the receipts of a round more stand at the end
-receipts_more : (rounds : List RoundState) (round : RoundState)
+pub receipts_more : (rounds : List RoundState) (round : RoundState)
     → receipts_in (rounds ++ round ∷ []) ≡ receipts_in rounds ++ round.receipts
 receipts_more [] round = append-nil round.receipts
 receipts_more (first ∷ rounds) round = ap (λ (rs : List ReceiptState). first.receipts ++ rs)
@@ -164,14 +164,19 @@ unnumbered : (journal : Option JournalState) (kept : Bool) (receipt : ReceiptSta
 unnumbered None kept receipt place some is plain = is
 unnumbered (Some journal) kept receipt place some is plain = let yes : kept ≡ true = some.0 refl in absurd (cc)
 
--- the receipts of a round that was kept are answers of the desk
+-- the receipts of a round, from which lawful rounds lead to a store that was kept, are answers of the desk
 pub answered_by : {K : Type 0} (stands_for : K → StoreState → Type 0) (opening : StoreState) (kept : Bool)
-    (before after : StoreState) (journal : Option JournalState) (receipts : List ReceiptState)
+    (before after last : StoreState) (journal : Option JournalState) (receipts : List ReceiptState)
     → IsAccount opening kept before journal → IsRound before receipts after
-    → AreNumberedFrom (next_number journal) receipts → IsKept stands_for after
+    → AreNumberedFrom (next_number journal) receipts → Led after last → IsKept stands_for last
     → All (IsDeskReceipt stands_for opening kept) receipts
-answered_by stands_for opening kept before after journal receipts is round numbered stands place other lt =
+answered_by stands_for opening kept before after last journal receipts is round numbered led stands place other lt =
     let reached = reached_by opening before after receipts place other lt is.led round in record {
-      answered = record { reached = reached.0; stands = subst (IsKept stands_for) (sym reached.1) stands };
+      answered = record {
+        reached = reached.0;
+        last = last;
+        led = subst (λ (s : StoreState). Led s last) (sym reached.1) led;
+        stands = stands;
+      };
       unnumbered = unnumbered journal kept (get_or receipts place other) place is.keeps (numbered place other lt);
     }

@@ -46,11 +46,14 @@ pub record IsKept {K : Type 0} (stands_for : K → StoreState → Type 0) (store
   pub keeper : K
   pub stands : stands_for keeper store
 
--- such a round answers the line, and the store that it left was kept before the receipt was given
+-- such a round answers the line, and before the receipt was given a store was kept to which lawful rounds lead from the
+-- one that it left
 pub record IsKeptReceipt {K : Type 0} (stands_for : K → StoreState → Type 0) (opening : StoreState)
     (receipt : ReceiptState) : Type 0 where
   pub reached : IsReached opening receipt
-  pub stands : IsKept stands_for reached.allowed.after
+  pub last : StoreState
+  pub led : Led reached.allowed.after last
+  pub stands : IsKept stands_for last
 
 -- what a desk with this opening store answers: such a receipt, with the number 0 where no journal is kept
 pub record IsDeskReceipt {K : Type 0} (stands_for : K → StoreState → Type 0) (opening : StoreState) (kept : Bool)

@@ -1,6 +1,7 @@
 -- For the proofs alone: a store, its journal and what keeps it, which change together.
-use Rattle.std.specs.Prelude.{◌≡◌, ℕ, ◌+◌, ◌-◌, ◌^◌, ◌↔◌, min, Bool, true, false, List, [], ◌∷◌, ◌++◌}
+use Rattle.std.specs.Prelude.{◌≡◌, ℕ, ◌+◌, ◌-◌, ◌<◌, ◌^◌, ◌↔◌, min, Bool, true, false, List, [], ◌∷◌, ◌++◌}
 use Rattle.std.specs.Prelude.{Option, Some, None, length, map, take, drop, All, IsSome}
+use Rattle.std.specs.Option.{option_map}
 use Rattle.grove_store.specs.StoreStates.{StoreState}
 use Rattle.grove_desk.specs.Receipts.{ReceiptState, AreNumberedFrom}
 use Rattle.grove_desk.specs.Histories.{RoundState, IsRound, Leads, Led, store_before, receipts_in}
@@ -24,6 +25,11 @@ noted_in round journal = record {
   rounds = journal.rounds ++ round ∷ [];
   lines = min (journal.lines + length round.receipts) (2 ^ 64 - 1);
 }
+
+-- all of these rounds more
+abbrev pub noted_all : List RoundState → JournalState → JournalState
+noted_all [] journal = journal
+noted_all (round ∷ rounds) journal = noted_all rounds (noted_in round journal)
 
 -- the number of the next line
 abbrev pub next_number : Option JournalState → Option ℕ
@@ -66,4 +72,16 @@ pub record AreReceiptsOf (first : Option ℕ) (lines replies : List (List ℕ)) 
 pub record AreAnswered (before after : StoreState) (old new : List Asked) (receipts : List ReceiptState) : Type 0 where
   pub lines : map (λ receipt. receipt.line) receipts ≡ take (length receipts) (map (λ asked. asked.line) old)
   pub round : IsRound before receipts after
+  pub left : drop (length receipts) new ≡ drop (length receipts) old
+
+-- rounds, one after the other, answer the first of the lines that were taken, and a journal has each
+pub record AreAnsweredInTurn (before after : StoreState) (journal later : Option JournalState) (old new : List Asked)
+    (receipts : List ReceiptState) : Type 0 where
+  pub rounds : List RoundState
+  pub leads : Leads rounds after
+  pub begins : store_before rounds after ≡ before
+  pub some : 0 < length receipts
+  pub told : receipts ≡ receipts_in rounds
+  pub lines : map (λ receipt. receipt.line) receipts ≡ take (length receipts) (map (λ asked. asked.line) old)
+  pub noted : later ≡ option_map (noted_all rounds) journal
   pub left : drop (length receipts) new ≡ drop (length receipts) old

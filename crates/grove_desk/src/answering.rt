@@ -1,5 +1,4 @@
 ghost use Rattle.std.specs.Prelude.{◌≡◌, ◌<◌, ◌≤◌, length, map, IfOk, OnErr};
-ghost use Rattle.std.specs.Vec.{vec_capacity};
 ghost use Rattle.grove_desk.specs.Receipts.{AreNumberedFrom, number_at};
 ghost use Rattle.grove_desk.specs.Ledgers.{AreAnswered};
 
@@ -18,16 +17,15 @@ pub(crate) fn answer_taken<R: Threads + Wait + Sync, G: Gate + Sync>(
     alloc: Global,
     store: &mut Store,
     first: Option<u64>,
-    taken: &mut Vec<Asked>,
+    taken: &mut [Asked],
     gate: &G,
 ) -> Result<Vec<Receipt>, NoMemory>
-    requires { (0 < length taken.old.items) × (length taken.old.items ≤ 16) }
+    requires { (0 < length taken.old) × (length taken.old ≤ 16) }
     ensures answered { IfOk result
-        (λ receipts. AreAnswered store.old store.new taken.old.items taken.new.items receipts.items) }
+        (λ receipts. AreAnswered store.old store.new taken.old taken.new receipts.items) }
     ensures numbered { IfOk result (λ receipts. AreNumberedFrom first receipts.items) }
-    ensures tickets { map (λ asked. asked.ticket) taken.new.items ≡ map (λ asked. asked.ticket) taken.old.items }
-    ensures room { vec_capacity taken.new ≡ vec_capacity taken.old }
-    ensures err { OnErr result (store.new ≡ store.old) }
+    ensures tickets { map (λ asked. asked.ticket) taken.new ≡ map (λ asked. asked.ticket) taken.old }
+    ensures err { OnErr result ((store.new ≡ store.old) × (taken.new ≡ taken.old)) }
 {
     let mut receipts = Vec::with_capacity(alloc, taken.len())?;
     let replies = {

@@ -1,5 +1,4 @@
 ghost use Rattle.std.specs.Prelude.{◌≡◌, ◌<◌, [], length, All, IfOk, IfSome, IfNone};
-ghost use Rattle.std.specs.Vec.{vec_capacity};
 ghost use Rattle.grove_desk.specs.Histories.{Led, IsKept, IsDeskReceipt};
 ghost use Rattle.grove_desk.specs.Boards.{Takes};
 
@@ -11,7 +10,7 @@ use crate::ledger::Ledger;
 use crate::pipeline::Pipeline;
 use crate::slot::Slot;
 use crate::state::State;
-use crate::turn::Turn;
+use crate::turn::{Leading, Turn};
 use crate::{DeskFault, Opening, Receipt};
 use grove_build::PlanCounts;
 use grove_store::{Keeper, Store};
@@ -19,8 +18,11 @@ use grove_tree::NoMemory;
 use grove_wire::Line;
 use std::alloc::Global;
 
-/// How many callers may wait with their lines, and the most lines that leave with the store at once.
+/// How many callers may wait with their lines, and the most lines that are answered in one round.
 pub(crate) const MOST_LINES: usize = 16;
+
+/// The most lines that leave with the store at once.
+pub(crate) const MOST_TAKEN: usize = 256;
 
 /// What lies behind a desk's lock: the store with its journal, unless they are out, and the lines that were put and not
 /// yet taken, in the order in which they were put.
@@ -185,16 +187,16 @@ impl<B: Opening, K: Keeper + Drop> Board<B, K> {
         &mut self,
         ticket: u64,
         may_go: bool,
+        leading: Leading,
         taken: &mut Vec<Asked>,
     ) -> Turn<Pipeline<B, K>, Ledger<B, K>>
         requires { taken.old.items ≡ [] }
-        ensures lines { Takes result taken.new.items }
-        ensures room { vec_capacity taken.new ≡ vec_capacity taken.old }
+        ensures { Takes result taken.new.items }
     {
         if let Some(lines) = self.collect(ticket, may_go) {
             return Turn::Leave(lines);
         }
-        match self.take(taken) {
+        match self.take(leading, taken) {
             Some(ledger) => Turn::Lead(ledger),
             None => Turn::Wait,
         }
@@ -211,21 +213,18 @@ impl<B: Opening, K: Keeper + Drop> Board<B, K> {
         Some(lines)
     }
 
-    /// Takes the store with the first lines that wait, one of each caller, where both are here.
-    fn take(&mut self, taken: &mut Vec<Asked>) -> Option<Ledger<B, K>>
+    /// Takes the store with the lines that wait, where both are here: the first ones of all callers, then the second
+    /// ones, and so on, as many as there is room for.
+    fn take(&mut self, leading: Leading, taken: &mut Vec<Asked>) -> Option<Ledger<B, K>>
         requires { taken.old.items ≡ [] }
         ensures some { IfSome result (λ _. 0 < length taken.new.items) }
         ensures none { IfNone result (taken.new.items ≡ []) }
-        ensures room { vec_capacity taken.new ≡ vec_capacity taken.old }
     {
         if self.ledger.is_none() || self.copies > 0 {
             return None;
         }
-        for place in 0..self.slots.len() {
-            if taken.len() == taken.capacity() {
-                break;
-            }
-            take_line(&mut self.slots, place, taken);
+        for _ in 0..leading.most_of_each() {
+            take_next(&mut self.slots, taken);
         }
         if taken.is_empty() {
             return None;
@@ -239,15 +238,14 @@ impl<B: Opening, K: Keeper + Drop> Board<B, K> {
         &mut self,
         ledger: Ledger<B, K>,
         taken: &mut Vec<Asked>,
-        mut answered: Result<Vec<Receipt>, NoReceipt>,
+        answered: Result<Vec<Receipt>, NoReceipt>,
     )
         requires { IfOk answered (λ receipts. All (IsDeskReceipt K.stands_for B.store B.kept) receipts.items) }
-        ensures taken { taken.new.items ≡ [] }
-        ensures room { vec_capacity taken.new ≡ vec_capacity taken.old }
+        ensures { taken.new.items ≡ [] }
     {
-        while let Some(asked) = taken.pop() {
-            let state = state_after(&mut answered, taken.len(), asked.line);
-            settle(&mut self.slots, asked.ticket, state);
+        match answered {
+            Ok(receipts) => settle_answered(&mut self.slots, taken, receipts),
+            Err(why) => settle_refused(&mut self.slots, taken, why),
         }
         self.rounds = ledger.rounds();
         self.plans = ledger.plan_counts();
@@ -256,27 +254,61 @@ impl<B: Opening, K: Keeper + Drop> Board<B, K> {
     }
 }
 
-/// Takes the next line of the slot at this place, where it waits.
-fn take_line<B: Opening, K: Keeper>(
-    slots: &mut Vec<Slot<B, K>>,
-    place: usize,
-    taken: &mut Vec<Asked>,
-)
-    requires place { place < length slots.old.items }
-    requires room { length taken.old.items < vec_capacity taken.old }
-    ensures length { length slots.new.items ≡ length slots.old.items }
-    ensures room { vec_capacity taken.new ≡ vec_capacity taken.old }
-{
-    let slot = &mut slots[place];
-    if let Some(line) = slot.lines.start() {
-        taken.push_reserved(Asked {
-            ticket: slot.ticket,
-            line,
-        });
+/// Takes the next line of each caller that waits, as many as there is room for.
+fn take_next<B: Opening, K: Keeper>(slots: &mut Vec<Slot<B, K>>, taken: &mut Vec<Asked>) {
+    for slot in slots.iter_mut() {
+        if taken.len() == taken.capacity() {
+            break;
+        }
+        if let Some(line) = slot.lines.start() {
+            taken.push_reserved(Asked {
+                ticket: slot.ticket,
+                line,
+            });
+        }
     }
 }
 
-/// Where the line that left under this ticket has got to now.
+/// Leaves the first of the lines their receipts. The others wait again.
+fn settle_answered<B: Opening, K: Keeper>(
+    slots: &mut Vec<Slot<B, K>>,
+    taken: &mut Vec<Asked>,
+    receipts: Vec<Receipt>,
+)
+    requires { All (IsDeskReceipt K.stands_for B.store B.kept) receipts.items }
+    ensures { taken.new.items ≡ [] }
+{
+    let mut receipts = receipts.into_iter();
+    for asked in taken.drain(..) {
+        let state = state_of(receipts.next(), asked.line);
+        settle(slots, asked.ticket, state);
+    }
+}
+
+/// Leaves each of the lines the refusal.
+fn settle_refused<B: Opening, K: Keeper>(
+    slots: &mut Vec<Slot<B, K>>,
+    taken: &mut Vec<Asked>,
+    why: NoReceipt,
+)
+    ensures { taken.new.items ≡ [] }
+{
+    for asked in taken.drain(..) {
+        settle(slots, asked.ticket, State::Done(Err(why)));
+    }
+}
+
+/// Where a line has got to that has this receipt, or none.
+fn state_of<B: Opening, K: Keeper>(receipt: Option<Receipt>, line: Line) -> State<B, K>
+    requires { IfSome receipt (IsDeskReceipt K.stands_for B.store B.kept) }
+{
+    match receipt {
+        Some(receipt) => State::Done(Ok(DeskReceipt::new(receipt))),
+        None => State::Waiting(line),
+    }
+}
+
+/// Where the first line that is out under this ticket has got to now.
 fn settle<B: Opening, K: Keeper>(slots: &mut Vec<Slot<B, K>>, ticket: u64, state: State<B, K>) {
     if let Some(place) = place_of(slots, ticket) {
         slots[place].lines.settle(state);
@@ -288,28 +320,4 @@ fn place_of<B: Opening, K: Keeper>(slots: &[Slot<B, K>], ticket: u64) -> Option<
     ensures { IfSome result (λ place. place < length slots.now) }
 {
     slots.iter().position(|slot| slot.ticket == ticket)
-}
-
-/// Where a round has brought the last of its lines that isn't settled yet, at this place: it has its receipt, the last
-/// of those that are left, or waits again where there is none for it; where the round gave none, each line is refused.
-fn state_after<B: Opening, K: Keeper>(
-    answered: &mut Result<Vec<Receipt>, NoReceipt>,
-    place: usize,
-    line: Line,
-) -> State<B, K>
-    requires { IfOk answered.old (λ receipts. All (IsDeskReceipt K.stands_for B.store B.kept) receipts.items) }
-    ensures { IfOk answered.new (λ receipts. All (IsDeskReceipt K.stands_for B.store B.kept) receipts.items) }
-{
-    match answered {
-        Ok(receipts) => {
-            if place >= receipts.len() {
-                return State::Waiting(line);
-            }
-            match receipts.pop() {
-                Some(receipt) => State::Done(Ok(DeskReceipt::new(receipt))),
-                None => State::Waiting(line),
-            }
-        }
-        Err(why) => State::Done(Err(*why)),
-    }
 }

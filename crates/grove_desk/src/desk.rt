@@ -7,7 +7,7 @@ ghost use Rattle.grove_desk.specs.Histories.{Led, IsReached, IsKept, IsKeptRecei
 ghost use Rattle.grove_desk.specs.Receipts.{ReceiptState, IsAllowed, IsForeignReceipt, ComesAfter};
 
 use crate::bells::Bells;
-use crate::board::{Board, MOST_LINES};
+use crate::board::Board;
 use crate::fault::NoReceipt;
 use crate::ledger::Ledger;
 use crate::pipeline::{Pipeline, WhoReads};
@@ -35,9 +35,9 @@ const ALONE: u64 = 16;
 const LARGE_LINE: usize = 64 * 1024;
 
 /// A store that many callers share. Each puts a line and waits for its receipt; one of them, whoever finds the store
-/// there, takes it with the first lines that wait, answers them as one round, and puts it back. What it was opened with
-/// is known by its type: so no other store gets behind its lock. Each round is kept by the keeper before its lines have
-/// receipts. Once one can't be kept, the desk refuses every line and every copy of its store.
+/// there, takes it with the first lines that wait, answers them by rounds, and puts it back. What it was opened with is
+/// known by its type: so no other store gets behind its lock. What the last of these rounds left is kept by the keeper
+/// before their lines have receipts. Once it can't be kept, the desk refuses every line and every copy of its store.
 #[derive(Drop)]
 pub struct Desk<B: Opening, K: Keeper = InMemory> {
     kept: bool,
@@ -168,9 +168,9 @@ impl<B: Opening, K: Keeper + Drop> Desk<B, K> {
         } else {
             None
         };
-        let mut taken = Vec::with_capacity(alloc, MOST_LINES)?;
+        let mut taken = Vec::with_capacity(alloc, leading.most_taken())?;
         let put = lines_to_put(alloc, lines, line, self.who_reads())?;
-        let (ticket, turn) = self.put(rt, put, &mut taken)?;
+        let (ticket, turn) = self.put(rt, put, leading, &mut taken)?;
         let (first, rest) = self.attend(rt, alloc, ticket, turn, leading, &mut taken, gate, watch);
         *lines = Some(rest);
         Ok(first?)
@@ -185,7 +185,7 @@ impl<B: Opening, K: Keeper + Drop> Desk<B, K> {
         }
     }
 
-    /// How many lines wait: they were put, and are in no round yet.
+    /// How many lines wait: they were put, and haven't left yet.
     pub fn waiting<R: Wait>(&self, rt: &R) -> u32 {
         u32::try_from(self.board.lock(rt).waiting()).unwrap_or(u32::MAX)
     }
@@ -195,8 +195,8 @@ impl<B: Opening, K: Keeper + Drop> Desk<B, K> {
         self.board.lock(rt).has_failed()
     }
 
-    /// A copy of the store as it stands between two rounds, and is kept. It may wait for a round that runs; the next
-    /// one begins after the copies that were asked for by then.
+    /// A copy of the store as it stands between two rounds, and is kept. It may wait for rounds that one caller leads;
+    /// the next ones begin after the copies that were asked for by then.
     pub fn snapshot<R: Wait>(&self, rt: &R, alloc: Global) -> Result<Store, DeskFault>
         ensures led { IfOk result (Led self.now.opening) }
         ensures kept { IfOk result (IsKept K.stands_for) }

@@ -16,17 +16,17 @@ pub enum DeskFault {
     /// A growth was refused.
     #[error("memory")]
     Memory,
-    /// What the last round left couldn't be kept, and nothing is answered any more.
+    /// What the last rounds left couldn't be kept, and nothing is answered any more.
     #[error("unkept")]
     Unkept,
 }
 
-/// Why the lines of a round have no receipts.
+/// Why lines that left with the store have no receipts.
 #[derive(Clone, Copy, Debug, PartialEq, Eq)]
 pub(crate) enum NoReceipt {
     /// A growth was refused, and nothing has changed.
     Memory,
-    /// What a round left couldn't be kept, and nothing is answered any more.
+    /// What the rounds left couldn't be kept, and nothing is answered any more.
     Unkept,
 }
 

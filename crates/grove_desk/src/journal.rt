@@ -1,6 +1,5 @@
 ghost use Rattle.std.specs.Prelude.{◌≡◌, [], Some, ◌<◌, ◌≤◌, ◌↔◌, length, map, All, IsTrue, IfOk, IfErr};
 ghost use Rattle.std.specs.Prelude.{OnErr};
-ghost use Rattle.std.specs.Vec.{vec_capacity};
 ghost use Rattle.grove_desk.specs.Receipts.{AreNumberedFrom};
 ghost use Rattle.grove_desk.specs.Histories.{StandsIn, Ascend};
 ghost use Rattle.grove_desk.specs.Ledgers.{noted_in, AreAnswered};
@@ -78,15 +77,14 @@ impl Journal {
         rt: &R,
         alloc: Global,
         store: &mut Store,
-        taken: &mut Vec<Asked>,
+        taken: &mut [Asked],
         gate: &G,
     ) -> Result<Vec<Receipt>, NoMemory>
-        requires { (0 < length taken.old.items) × (length taken.old.items ≤ 16) }
+        requires { (0 < length taken.old) × (length taken.old ≤ 16) }
         ensures answered { IfOk result
-            (λ receipts. AreAnswered store.old store.new taken.old.items taken.new.items receipts.items) }
+            (λ receipts. AreAnswered store.old store.new taken.old taken.new receipts.items) }
         ensures numbered { IfOk result (λ receipts. AreNumberedFrom (Some self.old.lines) receipts.items) }
-        ensures tickets { map (λ asked. asked.ticket) taken.new.items ≡ map (λ asked. asked.ticket) taken.old.items }
-        ensures room { vec_capacity taken.new ≡ vec_capacity taken.old }
+        ensures tickets { map (λ asked. asked.ticket) taken.new ≡ map (λ asked. asked.ticket) taken.old }
         ensures journal { IfOk result
             (λ receipts. self.new ≡ noted_in (record { before = store.old; receipts = receipts.items }) self.old) }
         ensures err { OnErr result ((self.new ≡ self.old) × (store.new ≡ store.old)) }

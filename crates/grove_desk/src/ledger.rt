@@ -1,19 +1,16 @@
-ghost use Rattle.std.specs.Prelude.{◌≡◌, true, false, Err, ◌<◌, ◌≤◌, ◌↔◌, ◌⊎◌, length, map, All, IfOk, OnOk, OnErr};
-ghost use Rattle.std.specs.Prelude.{IsSome};
-ghost use Rattle.std.specs.Option.{option_map};
+ghost use Rattle.std.specs.Prelude.{◌≡◌, true, false, Err, ◌<◌, ◌↔◌, ◌⊎◌, length, map, All, IfOk, OnOk, IsSome};
 ghost use Rattle.std.specs.Vec.{vec_capacity};
-ghost use Rattle.grove_desk.specs.Receipts.{AreNumberedFrom};
 ghost use Rattle.grove_desk.specs.Histories.{Led, IsKept, IsDeskReceipt};
-ghost use Rattle.grove_desk.specs.Ledgers.{noted_in, next_number, IsJournalOf, AreAnswered};
+ghost use Rattle.grove_desk.specs.Ledgers.{IsJournalOf, AreAnsweredInTurn};
 
-use crate::answering::answer_taken;
 use crate::asked::Asked;
 use crate::fault::NoReceipt;
 use crate::journal::Journal;
-use crate::{DeskFault, Opening, Receipt};
+use crate::rounds::answer_rounds;
+use crate::{DeskFault, Opening, Receipt, RoundWatch};
 use grove_build::PlanCounts;
 use grove_store::{Keeper, Store, Unkept};
-use grove_tree::{Gate, NoMemory};
+use grove_tree::Gate;
 use std::alloc::Global;
 use std::marker::{Model, PhantomData};
 use std::sync::Wait;
@@ -123,22 +120,21 @@ impl<B: Opening, K: Keeper> Ledger<B, K> {
         Ok(self.store.copy(alloc)?)
     }
 
-    /// Answers the first of the lines in one round, notes it where a journal is kept, and keeps what it left. Each has
-    /// a receipt, which takes the line; the others stay. Where memory is refused, nothing has changed. Where the round
-    /// can't be kept, or an earlier one couldn't, there are no receipts.
-    pub(crate) fn answer<R: Threads + Wait + Sync, G: Gate + Sync>(
+    /// Answers the lines by rounds, notes these where a journal is kept, and keeps what the last one left. Each line
+    /// has a receipt, which takes it; where memory is refused in a later round, the others stay. Where it is in the
+    /// first one, nothing has changed. Where the store can't be kept, or couldn't before, there are no receipts.
+    pub(crate) fn answer<R: Threads + Wait + Sync, G: Gate + Sync, W: RoundWatch<R>>(
         &mut self,
         rt: &R,
         alloc: Global,
         taken: &mut Vec<Asked>,
         gate: &G,
+        watch: &W,
     ) -> Result<Vec<Receipt>, NoReceipt>
-        requires { (0 < length taken.old.items) × (length taken.old.items ≤ 16) }
+        requires { 0 < length taken.old.items }
         ensures answered { IfOk result
-            (λ receipts. AreAnswered self.old.store self.new.store taken.old.items taken.new.items receipts.items) }
-        ensures journal { IfOk result
-            (λ receipts. self.new.journal
-            ≡ option_map (noted_in (record { before = self.old.store; receipts = receipts.items })) self.old.journal) }
+            (λ receipts. AreAnsweredInTurn self.old.store self.new.store self.old.journal self.new.journal
+            taken.old.items taken.new.items receipts.items) }
         ensures receipts { IfOk result (λ receipts. All (IsDeskReceipt K.stands_for B.store B.kept) receipts.items) }
         ensures tickets { map (λ asked. asked.ticket) taken.new.items ≡ map (λ asked. asked.ticket) taken.old.items }
         ensures room { vec_capacity taken.new ≡ vec_capacity taken.old }
@@ -153,7 +149,15 @@ impl<B: Opening, K: Keeper> Ledger<B, K> {
         if self.failed {
             return Err(NoReceipt::Unkept);
         }
-        let receipts = answer_noted(rt, alloc, &mut self.store, &mut self.journal, taken, gate)?;
+        let receipts = answer_rounds(
+            rt,
+            alloc,
+            &mut self.store,
+            &mut self.journal,
+            taken,
+            gate,
+            watch,
+        )?;
         match self.keeper.keep(alloc, &self.store) {
             Ok(()) => Ok(receipts),
             Err(Unkept) => {
@@ -161,32 +165,5 @@ impl<B: Opening, K: Keeper> Ledger<B, K> {
                 Err(NoReceipt::Unkept)
             }
         }
-    }
-}
-
-/// Answers the first of the lines in one round of the store, and notes it where a journal is kept. Where memory is
-/// refused, both are as they were.
-fn answer_noted<R: Threads + Wait + Sync, G: Gate + Sync>(
-    rt: &R,
-    alloc: Global,
-    store: &mut Store,
-    journal: &mut Option<Journal>,
-    taken: &mut Vec<Asked>,
-    gate: &G,
-) -> Result<Vec<Receipt>, NoMemory>
-    requires { (0 < length taken.old.items) × (length taken.old.items ≤ 16) }
-    ensures answered { IfOk result
-        (λ receipts. AreAnswered store.old store.new taken.old.items taken.new.items receipts.items) }
-    ensures numbered { IfOk result (λ receipts. AreNumberedFrom (next_number journal.old) receipts.items) }
-    ensures journal { IfOk result
-        (λ receipts. journal.new
-        ≡ option_map (noted_in (record { before = store.old; receipts = receipts.items })) journal.old) }
-    ensures tickets { map (λ asked. asked.ticket) taken.new.items ≡ map (λ asked. asked.ticket) taken.old.items }
-    ensures room { vec_capacity taken.new ≡ vec_capacity taken.old }
-    ensures err { OnErr result ((journal.new ≡ journal.old) × (store.new ≡ store.old)) }
-{
-    match journal {
-        Some(journal) => journal.answer(rt, alloc, store, taken, gate),
-        None => answer_taken(rt, alloc, store, None, taken, gate),
     }
 }

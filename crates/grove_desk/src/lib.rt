@@ -25,6 +25,7 @@ mod ledger;
 mod opening;
 mod pipeline;
 mod receipt;
+mod rounds;
 mod slot;
 mod standing;
 mod state;

@@ -13,7 +13,7 @@ use std::alloc::Global;
 use std::mem;
 
 /// So many lines of a visitor at most are put together.
-const MOST_TOGETHER: usize = 16;
+pub(crate) const MOST_TOGETHER: usize = 16;
 
 /// They have no more bytes together, with a line feed each.
 const MOST_BYTES: usize = 64 * 1024;
@@ -83,7 +83,7 @@ impl<B: Opening, K: Keeper> Pipeline<B, K> {
         self.taken >= self.lines.len()
     }
 
-    /// Does a line wait to be taken?
+    /// Does the first line that isn't settled wait to be taken?
     pub(crate) fn is_waiting(&self) -> bool
         ensures { IsTrue result → self.now.settled < length self.now.lines.items }
     {
@@ -92,10 +92,7 @@ impl<B: Opening, K: Keeper> Pipeline<B, K> {
 
     /// How many of the lines wait.
     pub(crate) fn waiting(&self) -> usize {
-        self.lines
-            .iter()
-            .filter(|state| matches!(state, State::Waiting(_)))
-            .count()
+        self.lines.iter().filter(|state| state.is_waiting()).count()
     }
 
     /// Is every line settled?
@@ -110,27 +107,25 @@ impl<B: Opening, K: Keeper> Pipeline<B, K> {
         self.settled > self.taken
     }
 
-    /// The first line that isn't settled, where it waits. It leaves then.
+    /// The first line that waits. It leaves then; lines before it may be out.
     pub(crate) fn start(&mut self) -> Option<Line> {
-        if !self.is_waiting() {
-            return None;
-        }
-        match mem::replace(&mut self.lines[self.settled], State::Running) {
+        let place = self.lines.iter().position(|state| state.is_waiting())?;
+        match mem::replace(&mut self.lines[place], State::Running) {
             State::Waiting(line) => Some(line),
-            State::Running | State::Done(_) => None,
+            State::Running | State::Done(_) | State::Taken => None,
         }
     }
 
-    /// Where the line that left has got to. No line stays behind one that has no receipt.
+    /// Where the first of the lines that are out has got to. No line stays behind one that has no receipt.
     pub(crate) fn settle(&mut self, state: State<B, K>) {
-        if self.is_settled() {
+        let Some(place) = self.lines.iter().position(|state| state.is_running()) else {
             return;
-        }
+        };
         let is_done = state.is_done();
         let is_refused = state.is_refused();
-        self.lines[self.settled] = state;
+        self.lines[place] = state;
         if is_done {
-            self.settled += 1;
+            self.settled = place + 1;
         }
         if is_refused {
             self.lines.truncate(self.settled);
@@ -144,12 +139,12 @@ impl<B: Opening, K: Keeper> Pipeline<B, K> {
         if !self.has_settled() || self.is_empty() {
             return None;
         }
-        let first = mem::replace(&mut self.lines[self.taken], State::Running);
+        let first = mem::replace(&mut self.lines[self.taken], State::Taken);
         self.taken += 1;
         match first {
             State::Done(Ok(receipt)) => Some(Ok(receipt.into_receipt())),
             State::Done(Err(why)) => Some(Err(why)),
-            State::Waiting(_) | State::Running => None,
+            State::Waiting(_) | State::Running | State::Taken => None,
         }
     }
 }

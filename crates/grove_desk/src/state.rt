@@ -12,9 +12,19 @@ pub(crate) enum State<B: Opening, K: Keeper> {
     Running,
     /// What the caller of the line is to take.
     Done(Result<DeskReceipt<B, K>, NoReceipt>),
+    /// The caller of the line has taken it.
+    Taken,
 }
 
 impl<B: Opening, K: Keeper> State<B, K> {
+    pub(crate) fn is_waiting(&self) -> bool {
+        matches!(self, State::Waiting(_))
+    }
+
+    pub(crate) fn is_running(&self) -> bool {
+        matches!(self, State::Running)
+    }
+
     pub(crate) fn is_done(&self) -> bool {
         matches!(self, State::Done(_))
     }

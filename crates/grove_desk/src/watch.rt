@@ -6,7 +6,7 @@ pub trait RoundWatch<R> {
     /// A round begins. What is given comes back once it has ended.
     fn begin(&self, rt: &R) -> Option<Instant>;
 
-    /// The round that began then has these receipts.
+    /// The round that began then has these receipts. What it left isn't kept yet.
     fn end(&self, rt: &R, began: Option<Instant>, receipts: &[Receipt]);
 }
 

@@ -1,6 +1,5 @@
 //! How a caller comes to what its lines are answered: it leads rounds, or waits for who does.
 ghost use Rattle.std.specs.Prelude.{◌≡◌, ◌<◌, [], length, All, IfOk};
-ghost use Rattle.std.specs.Vec.{vec_capacity};
 ghost use Rattle.grove_desk.specs.Histories.{IsDeskReceipt};
 ghost use Rattle.grove_desk.specs.Boards.{Takes};
 
@@ -25,11 +24,11 @@ impl<B: Opening, K: Keeper + Drop> Desk<B, K> {
         &self,
         rt: &R,
         lines: Pipeline<B, K>,
+        leading: Leading,
         taken: &mut Vec<Asked>,
     ) -> Result<(u64, Turn<Pipeline<B, K>, Ledger<B, K>>), NoMemory>
         requires { taken.old.items ≡ [] }
         ensures lines { IfOk result (λ put. Takes put.1 taken.new.items) }
-        ensures room { vec_capacity taken.new ≡ vec_capacity taken.old }
     {
         let mut board = self.board.lock(rt);
         board.stay_outside();
@@ -40,7 +39,7 @@ impl<B: Opening, K: Keeper + Drop> Desk<B, K> {
         board.come_in();
         self.note_others(board.has_lines());
         match board.put(lines) {
-            Ok(ticket) => Ok((ticket, self.await_turn(rt, board, ticket, taken))),
+            Ok(ticket) => Ok((ticket, self.await_turn(rt, board, ticket, leading, taken))),
             Err(NoMemory) => {
                 drop(board);
                 // The room that they leave is another one's.
@@ -64,8 +63,7 @@ impl<B: Opening, K: Keeper + Drop> Desk<B, K> {
         gate: &G,
         watch: &W,
     ) -> (Result<Receipt, NoReceipt>, Pipeline<B, K>)
-        requires lines { Takes turn taken.old.items }
-        requires room { vec_capacity taken.old ≡ 16 }
+        requires { Takes turn taken.old.items }
         ensures { IfOk result.0 (IsDeskReceipt K.stands_for B.store B.kept) }
     {
         let mut turn = turn;
@@ -76,14 +74,10 @@ impl<B: Opening, K: Keeper + Drop> Desk<B, K> {
                     None => Turn::Wait,
                 },
                 Turn::Lead(mut ledger) => {
-                    let began = watch.begin(rt);
-                    let answered = ledger.answer(rt, alloc, taken, gate);
-                    if let Ok(receipts) = &answered {
-                        watch.end(rt, began, receipts);
-                    }
+                    let answered = ledger.answer(rt, alloc, taken, gate, watch);
                     self.put_back(rt, ledger, ticket, leading, taken, answered)
                 }
-                Turn::Wait => self.await_turn(rt, self.board.lock(rt), ticket, taken),
+                Turn::Wait => self.await_turn(rt, self.board.lock(rt), ticket, leading, taken),
             };
         }
         unreachable!()
@@ -105,17 +99,17 @@ impl<B: Opening, K: Keeper + Drop> Desk<B, K> {
         rt: &R,
         board: MutexGuard<'_, Board<B, K>>,
         ticket: u64,
+        leading: Leading,
         taken: &mut Vec<Asked>,
     ) -> Turn<Pipeline<B, K>, Ledger<B, K>>
         requires { taken.old.items ≡ [] }
-        ensures lines { Takes result taken.new.items }
-        ensures room { vec_capacity taken.new ≡ vec_capacity taken.old }
+        ensures { Takes result taken.new.items }
     {
         let mut board = board;
-        let mut turn = board.turn(ticket, false, taken);
+        let mut turn = board.turn(ticket, false, leading, taken);
         if let Turn::Wait = turn {
             board = self.bells.of(ticket).wait(rt, board);
-            turn = board.turn(ticket, false, taken);
+            turn = board.turn(ticket, false, leading, taken);
         }
         let room = board.room();
         drop(board);
@@ -135,12 +129,11 @@ impl<B: Opening, K: Keeper + Drop> Desk<B, K> {
         answered: Result<Vec<Receipt>, NoReceipt>,
     ) -> Turn<Pipeline<B, K>, Ledger<B, K>>
         requires { IfOk answered (λ receipts. All (IsDeskReceipt K.stands_for B.store B.kept) receipts.items) }
-        ensures lines { Takes result taken.new.items }
-        ensures room { vec_capacity taken.new ≡ vec_capacity taken.old }
+        ensures { Takes result taken.new.items }
     {
         let mut board = self.board.lock(rt);
         board.put_back(ledger, taken, answered);
-        let turn = board.turn(ticket, leading == Leading::Once, taken);
+        let turn = board.turn(ticket, leading == Leading::Once, leading, taken);
         let rings = board.rings();
         let room = board.room();
         drop(board);

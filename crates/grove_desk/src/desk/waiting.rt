@@ -11,8 +11,8 @@ use std::time::{Clock, Duration};
 
 impl<B: Opening, K: Keeper + Drop> Desk<B, K> {
     /// A copy of the store once a round later than this one is done, or as it stands if none is done for so long. It
-    /// takes no line's turn meanwhile, and is woken only for such a round. As `snapshot` it may wait for a round that
-    /// runs.
+    /// takes no line's turn meanwhile, and is woken only for such a round. As `snapshot` it may wait for rounds that
+    /// one caller leads.
     pub fn snapshot_after<R: Wait + Clock>(
         &self,
         rt: &R,

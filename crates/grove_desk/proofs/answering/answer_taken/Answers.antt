@@ -13,9 +13,8 @@ pub loop-reply-init : goal.loop-reply-init
 loop-reply-init g c =
     let given = c.into_iter-reply-iterator.ensures.into_iter_gives.0 in
     let few = few_replies (λ (asked : Asked). asked.line) c.args.store.now c.reply_round.new.self
-    (map (λ line. line.now) c.deref-2.result.now) c.args.taken.now.items c.in_ok-replies.replies.items
-    (ap (map (λ line. line.now)) c.deref-2.ensures.value ∙ c.in_ok-lines.ensures
-    ∙ ap (map (λ (asked : Asked). asked.line)) c.deref.ensures.value)
+    (map (λ line. line.now) c.deref.result.now) c.args.taken.now c.in_ok-replies.replies.items
+    (ap (map (λ line. line.now)) c.deref.ensures.value ∙ c.in_ok-lines.ensures)
     c.in_ok-replies.ensures.round in
     rw c.in_ok-receipts.ensures.items record {
       next = tt;
@@ -28,11 +27,10 @@ loop-reply-init g c =
       long = refl;
       left = refl;
       tickets = refl;
-      stays = refl;
     }
 
-pub index_mut-requires : goal.index_mut-requires
-index_mut-requires g c =
+pub bounds-taken-place : goal.bounds-taken-place
+bounds-taken-place g c =
     let place : c.len-place.result ≡ length c.loop-reply.receipts.items = omega (arith, c.loop-reply.receipts.ok.0) in
     let step = drop_step c.into_iter-reply-iterator.result.rest.items
     (length c.loop-reply.receipts.items) c.in-Some.reply c.next.new.self.rest.items
@@ -40,7 +38,7 @@ index_mut-requires g c =
     let within : length c.loop-reply.receipts.items < length c.into_iter-reply-iterator.result.rest.items = step.0 in
     let few = c.loop-reply.invariant.few in
     let long = c.loop-reply.invariant.long in
-    omega (arith, c.loop-reply.taken.ok.0)
+    omega arith
 
 pub push_reserved-requires : goal.push_reserved-requires
 push_reserved-requires g c =
@@ -50,7 +48,7 @@ push_reserved-requires g c =
     let within : length c.loop-reply.receipts.items < length c.into_iter-reply-iterator.result.rest.items = step.0 in
     let few = c.loop-reply.invariant.few in
     let room = c.loop-reply.invariant.room in
-    omega (arith, c.loop-reply.receipts.ok.0, c.args.taken.now.ok.0, c.in_ok-receipts.ensures.capacity)
+    omega (arith, c.loop-reply.receipts.ok.0, c.in_ok-receipts.ensures.capacity)
 
 pub loop-reply-preserved : goal.loop-reply-preserved
 loop-reply-preserved g c =
@@ -59,17 +57,16 @@ loop-reply-preserved g c =
     let place : c.len-place.result ≡ i = omega (arith, c.loop-reply.receipts.ok.0) in
     let step = drop_step replies i c.in-Some.reply c.next.new.self.rest.items
     (sym c.in-Some.ensures.steps.0 ∙ c.loop-reply.invariant.rest) in
-    let long : length c.loop-reply.taken.items ≡ length c.args.taken.now.items = c.loop-reply.invariant.long in
+    let long : length c.loop-reply.taken ≡ length c.args.taken.now = c.loop-reply.invariant.long in
     let few = c.loop-reply.invariant.few in
     let within : i < length replies = step.0 in
-    let asked : c.index_mut.result.now ≡ get_or c.args.taken.now.items c.len-place.result c.index_mut.result.now =
-    c.index_mut.ensures.value ∙ same_next c.loop-reply.taken.items c.args.taken.now.items i c.len-place.result
-    c.index_mut.result.now place c.loop-reply.invariant.left in
+    let asked = same_next c.loop-reply.taken c.args.taken.now i c.len-place.result c.index-taken-place.result place
+    c.loop-reply.invariant.left in
     let next = noted_more
-    (λ (a : Asked). a.line) c.args.first c.args.taken.now.items replies c.reply_round.new.self.rounds
+    (λ (a : Asked). a.line) c.args.first c.args.taken.now replies c.reply_round.new.self.rounds
     c.loop-reply.receipts.items c.push_reserved.new.self.items i c.len-place.result
-    c.number_of.result c.take.result.items c.into_text.result.items c.index_mut.result.now c.in-Some.reply within few
-    refl place c.loop-reply.invariant.noted
+    c.number_of.result c.take.result.items c.into_text.result.items c.index-taken-place.result c.in-Some.reply within
+    few refl place c.loop-reply.invariant.noted
     (c.take.ensures ∙ ap (λ (a : Asked). a.line) asked) c.into_text.ensures step.1 c.number_of.ensures
     (c.push_reserved.ensures.items
     ∙ ap (λ (n : ℕ). c.loop-reply.receipts.items ++ record
@@ -83,31 +80,29 @@ loop-reply-preserved g c =
       rest = step.2 ∙ sym (ap (λ (n : ℕ). drop n replies) more);
       within = omega arith;
       noted = subst (λ (n : ℕ). AreReceiptsOf c.args.first
-          (map (λ (a : Asked). a.line) c.args.taken.now.items)
+          (map (λ (a : Asked). a.line) c.args.taken.now)
           (take n replies) c.reply_round.new.self.rounds c.push_reserved.new.self.items) (sym more) next.1;
       room = c.push_reserved.ensures.capacity ∙ c.loop-reply.invariant.room;
-      long = length-set c.loop-reply.taken.items c.len-place.result _ ∙ long;
-      left = drop-set-lt (length c.push_reserved.new.self.items) c.loop-reply.taken.items c.len-place.result _
+      long = length-set c.loop-reply.taken c.len-place.result _ ∙ long;
+      left = drop-set-lt (length c.push_reserved.new.self.items) c.loop-reply.taken c.len-place.result _
           (omega arith)
-          ∙ ap (λ (n : ℕ). drop n c.loop-reply.taken.items) more
-          ∙ drop_on c.loop-reply.taken.items c.args.taken.now.items i c.index_mut.result.now (omega arith)
+          ∙ ap (λ (n : ℕ). drop n c.loop-reply.taken) more
+          ∙ drop_on c.loop-reply.taken c.args.taken.now i c.index-taken-place.result (omega arith)
           (omega arith) c.loop-reply.invariant.left
-          ∙ sym (ap (λ (n : ℕ). drop n c.args.taken.now.items) more);
-      tickets = map-set_same (λ (a : Asked). a.ticket) c.loop-reply.taken.items c.len-place.result _
-          c.index_mut.result.now (ap (λ (a : Asked). a.ticket) c.index_mut.ensures.value)
+          ∙ sym (ap (λ (n : ℕ). drop n c.args.taken.now) more);
+      tickets = map-set_same (λ (a : Asked). a.ticket) c.loop-reply.taken c.len-place.result _
+          c.index-taken-place.result refl
           ∙ c.loop-reply.invariant.tickets;
-      stays = c.loop-reply.invariant.stays;
     }
 
 pub returns-clause-answered : goal.returns-clause-answered
 returns-clause-answered g c =
-    let (lines, round) = noted_round (λ (asked : Asked). asked.line) c.args.first c.args.taken.now.items
+    let (lines, round) = noted_round (λ (asked : Asked). asked.line) c.args.first c.args.taken.now
     c.in_ok-replies.replies.items c.into_iter-reply-iterator.result.rest.items
     c.loop-reply.reply-iterator.rest.items
-    (map (λ line. line.now) c.deref-2.result.now) c.loop-reply.receipts.items c.args.store.now c.reply_round.new.self
+    (map (λ line. line.now) c.deref.result.now) c.loop-reply.receipts.items c.args.store.now c.reply_round.new.self
     (omega (arith, c.in-None.ensures.steps.0, c.loop-reply.reply-iterator.rest.ok.0)) c.loop-reply.invariant.rest
     c.loop-reply.invariant.within c.into_iter-reply-iterator.ensures.into_iter_gives.0
-    (ap (map (λ line. line.now)) c.deref-2.ensures.value ∙ c.in_ok-lines.ensures
-    ∙ ap (map (λ (asked : Asked). asked.line)) c.deref.ensures.value)
+    (ap (map (λ line. line.now)) c.deref.ensures.value ∙ c.in_ok-lines.ensures)
     c.in_ok-replies.ensures.round c.loop-reply.invariant.noted in
     record { lines = lines; round = round; left = c.loop-reply.invariant.left }

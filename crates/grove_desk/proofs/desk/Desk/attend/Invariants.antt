@@ -1,9 +1,7 @@
-use Rattle.std.proofs.Common.{◌≡◌}
-use Rattle.std.specs.Vec.{vec_capacity}
 use Rattle.grove_desk.specs.Boards.{Takes}
 use Rattle.grove_desk.proofs.desk.Desk.attend.Given as goal
 
 abbrev pub invariant-loop : goal.invariant-loop
 invariant-loop g l =
     (goal.iterator-loop g).can_next l.iterator' × (goal.iterator-loop g).is_finite l.iterator'
-    × Takes l.turn l.taken.items × (vec_capacity l.taken ≡ 16)
+    × Takes l.turn l.taken.items

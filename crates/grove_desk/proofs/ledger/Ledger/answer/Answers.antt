@@ -1,31 +1,43 @@
-use Rattle.std.proofs.Common.{sym}
+use Rattle.std.proofs.Common.{◌<◌, List, length, sym, ap, subst}
+use Rattle.std.specs.Prelude.{All}
 use Rattle.std.proofs.lemmas.Bool.{false≢true}
-use Rattle.grove_desk.proofs.Keeping.{account_more, answered_by, next_of}
+use Rattle.grove_desk.specs.Receipts.{ReceiptState, AreNumberedFrom}
+use Rattle.grove_desk.specs.Histories.{IsDeskReceipt}
+use Rattle.grove_desk.proofs.Turns.{accounts_more, all_answered, rounds_lead}
 use Rattle.grove_desk.proofs.ledger.Ledger.answer.Goals as goal
 
 pub keep-requires : goal.keep-requires
-keep-requires g c = (
-  c.self.inside.store,
-  c.self.invariant.stands c.if-self.false,
-  next_of _ _ _ c.in_ok-receipts.ensures.answered.round,
-)
+keep-requires g c =
+    let turn = c.in_ok-receipts.ensures.answered in (
+      c.self.inside.store,
+      c.self.invariant.stands c.if-self.false,
+      rounds_lead turn.rounds _ _ turn.leads turn.begins
+          (subst (λ (rs : List ReceiptState). 0 < length rs) turn.told turn.some),
+    )
 
 pub invariant_of-self-in-Ok : goal.invariant_of-self-in-Ok
 invariant_of-self-in-Ok g c =
-    let told = c.in_ok-receipts.ensures in record {
-      account = account_more _ _ _ _ _ _ _ c.self.invariant.account told.answered.round told.numbered told.journal;
+    let told = c.in_ok-receipts.ensures in
+    let turn = told.answered in record {
+      account = accounts_more _ _ turn.rounds _ _ _ _ c.self.invariant.account turn.leads turn.begins
+          (subst (AreNumberedFrom _) turn.told told.numbered) turn.noted;
       stands = λ sound. c.in-Ok.ensures.kept;
     }
 
 pub invariant_of-self-in-Err-1 : goal.invariant_of-self-in-Err-1
 invariant_of-self-in-Err-1 g c =
-    let told = c.in_ok-receipts.ensures in record {
-      account = account_more _ _ _ _ _ _ _ c.self.invariant.account told.answered.round told.numbered told.journal;
+    let told = c.in_ok-receipts.ensures in
+    let turn = told.answered in record {
+      account = accounts_more _ _ turn.rounds _ _ _ _ c.self.invariant.account turn.leads turn.begins
+          (subst (AreNumberedFrom _) turn.told told.numbered) turn.noted;
       stands = λ sound. absurd (false≢true (sym sound));
     }
 
 pub returns-in-Ok-clause-receipts : goal.returns-in-Ok-clause-receipts
 returns-in-Ok-clause-receipts g c =
     let told = c.in_ok-receipts.ensures in
-    answered_by g.K.Keeper.stands_for _ _ _ c.answer_noted.new.store _ _ c.self.invariant.account told.answered.round
-    told.numbered (record { keeper = c.keep.new.self; stands = c.in-Ok.ensures.kept })
+    let turn = told.answered in
+    subst (All (IsDeskReceipt g.K.Keeper.stands_for g.B.Opening.store g.B.Opening.kept)) (sym turn.told)
+    (all_answered g.K.Keeper.stands_for _ _ turn.rounds _ c.answer_rounds.new.store _ c.self.invariant.account
+    turn.leads turn.begins (subst (AreNumberedFrom _) turn.told told.numbered)
+    (record { keeper = c.keep.new.self; stands = c.in-Ok.ensures.kept }))
