@@ -24,7 +24,7 @@ pub fn small_store(rt: &impl Host) -> Store {
 }
 
 /// Closes the desk: there were so many rounds, and calls of so many lines each.
-pub fn close_after<B: Opening>(
+fn close_after<B: Opening>(
     rt: &impl Host,
     desk: Desk<B>,
     receipts: &[Receipt],

@@ -11,6 +11,9 @@ pub trait Host: AllocGlobal + Abort + Threads + Wait + Sync {}
 
 impl<R: AllocGlobal + Abort + Threads + Wait + Sync> Host for R {}
 
+/// How often anybody looks.
+pub const MOST_LOOKS: u32 = 20_000_000;
+
 /// The first leaf of the trees with two, `/a`.
 pub const A: u32 = 1;
 

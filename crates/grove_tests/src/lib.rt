@@ -17,12 +17,6 @@ mod devices;
 #[cfg(test)]
 mod fixtures;
 #[cfg(test)]
-mod full_boards;
-#[cfg(test)]
-mod hold;
-#[cfg(test)]
-mod leftovers;
-#[cfg(test)]
 mod lines_together;
 #[cfg(test)]
 mod meeting;
@@ -30,7 +24,5 @@ mod meeting;
 mod scripts;
 #[cfg(test)]
 mod sleepers;
-#[cfg(test)]
-mod unkept;
 #[cfg(test)]
 mod workers;

@@ -1,4 +1,4 @@
-use crate::hold::MOST_LOOKS;
+use crate::fixtures::MOST_LOOKS;
 use grove_tree::Gate;
 use std::sync::atomic::{AtomicBool, AtomicU64, Ordering};
 

@@ -42,15 +42,3 @@ fn two_that_sleep_for_one_node_get_it_one_after_the_other(rt: HostRuntime) {
         run_by_cues(&rt, &tree, &[0; 3], &jobs, 3, cues);
     }
 }
-
-/// Whoever lets the leaf go takes it for its next job, mostly before the one that it has woken is there.
-#[test]
-fn who_is_woken_in_vain_sleeps_on(rt: HostRuntime) {
-    let tree = two_leaves(&rt, rt.alloc());
-    let jobs = [A; 16].map(|node| reads(&rt, rt.alloc(), &tree, node));
-    for workers in [2, 3, 16] {
-        for _ in 0..TIMES {
-            run_by_cues(&rt, &tree, &[0; 3], &jobs, workers, Vec::new(rt.alloc()));
-        }
-    }
-}
