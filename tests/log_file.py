@@ -2,7 +2,8 @@
 
 A file has a head (a magic word, its version, and a number that was drawn for it) and frames. A frame is its payload's
 length, the number that makes 2^32 - 1 with it, the payload, and a digest of the digest before and the payload; the
-first is chained to the file's number. The first payload is a snapshot, each other one the effect of a round.
+first is chained to the file's number. The first payload is a snapshot, each other one the effect of
+rounds that share a sync.
 """
 
 from __future__ import annotations

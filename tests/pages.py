@@ -22,6 +22,8 @@ ALLOWED = {"/": {*LOOKS, b"POST"}, "/document": LOOKS, "/nodes": LOOKS, "/health
 HEALTHY = b'{"status":"ok"}\n'
 # What each response with a type says against being framed, or taken for another one.
 GUARDS = {b"x-content-type-options": b"nosniff", b"x-frame-options": b"DENY"}
+# What the page has besides, and nothing else.
+PAGE_GUARDS = {**GUARDS, b"content-security-policy": b"frame-ancestors 'none'"}
 
 
 def lines_in(body):
@@ -152,7 +154,7 @@ def fault_of_look(response, wanted, kind, method):
 def fault_of_plain(response, status, bodies, kind=JSON):
     if response.status != status or response.body not in bodies:
         return f"wanted {status} {min(bodies)[:200]!r}; came {response}"
-    if not GUARDS.items() <= response.fields.items():
+    if not (PAGE_GUARDS if kind == HTML else GUARDS).items() <= response.fields.items():
         return f"it may be framed, or taken for another type: {response.fields}"
     told = response.fields.get(b"content-type")
     return None if told == kind or not response.body else f"wanted {kind!r}; came {told!r}"

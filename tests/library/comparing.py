@@ -10,7 +10,7 @@ from functools import lru_cache, partial
 from pathlib import Path
 from typing import Iterator
 
-from documents import Plans, answers_in, framed, some_document
+from documents import Plans, answers_in, framed, some_document, with_bounds
 from sweeps.documents import examples
 from sweeps.program import Tally, run
 
@@ -35,10 +35,12 @@ LONGEST = 300
 Answer = tuple[int, bytes]
 
 
-def all_documents(count: int, planned: Plans) -> list[bytes]:
-    """The examples, what is no document, and so many seeded ones."""
+def all_documents(count: int, first: int, planned: Plans) -> list[bytes]:
+    """The examples, what is no document, records at the bound of what they hold, and so many seeded ones, from a seed
+    on."""
     own = dict.fromkeys(example.text for example in examples())
-    return [*own, *BROKEN, *(some_document(seed, planned) for seed in range(count))]
+    seeded = (some_document(seed, planned) for seed in range(first, first + count))
+    return [*own, *BROKEN, *with_bounds(planned), *seeded]
 
 
 @lru_cache(maxsize=1)

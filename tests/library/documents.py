@@ -28,6 +28,15 @@ def some_document(seed: int, planned: Plans) -> bytes:
     return kinds[seed % len(kinds)](random, planned)
 
 
+def with_bounds(planned: Plans) -> Iterator[bytes]:
+    """A record at each end of what a record holds, one within it and one beyond; and what accesses make of it."""
+    accesses = [["get", "/"], ["add", "/", 1], ["add", "/", -1], ["take", "/", 1], ["set", "/", 0]]
+    for end, inwards in ((2**63 - 1, -1), (-(2**63), 1)):
+        for record in (end + inwards, end, end - inwards):
+            nodes = [{"parent": None, "name": "", "weight": 1, "value": record}]
+            yield planned(written({"version": 2, "nodes": nodes, "list": accesses}))
+
+
 def listed(random: Random, _planned: Plans) -> bytes:
     """A tree and a list, of either version."""
     return written(tree_and_list(random))

@@ -17,13 +17,14 @@ from dataclasses import dataclass
 from functools import lru_cache
 from pathlib import Path
 
+import naming
 from comparing import Answer, all_documents, by_program, note_answers, read_answers, streams_of
 from numbering import Numbers, differences
 from storing import note_talk, talks, written
 from sweeps.documents import EXAMPLES
 from sweeps.program import Tally
 from tool_trials import Trial
-from valuing import lines_of, note_values
+from valuing import Judged, lines_of, note_values
 
 TOP = Path(__file__).resolve().parents[2]
 LIBRARY = TOP / "out/library"
@@ -72,6 +73,7 @@ class Given:
 
     program: str
     documents: int
+    seed: int
     lines: int
 
 
@@ -287,6 +289,12 @@ def crate_at(room: Path) -> Path:
 # ---- Python
 
 
+def names(_given: Given, _room: Path, tally: Tally) -> None:
+    """The package and the crate have the names that docs/LIBRARY.md has for them."""
+    for where, fault in naming.differences():
+        tally.note(where, fault)
+
+
 def python(_given: Given, _room: Path, tally: Tally) -> None:
     """The unit tests of the package."""
     words = ["-B", "-m", "unittest", "discover", "-s", "tests"]
@@ -365,15 +373,17 @@ def with_package() -> dict[str, str]:
 
 
 def c_says_the_same(given: Given, room: Path, tally: Tally) -> None:
-    """What the program prints, and its refusals, to the byte; so the other two."""
+    """What the program prints, and its refusals, to the byte, by documents and by values; so the other two."""
     note_well(tally, "compiled", compiled("tests/library/answers.c", room, "libgrove.a", "-std=c99", "-O1"))
     note_same(given, room, tally, [room / "program"])
+    note_well(tally, "compiled values", compiled("tests/library/values.c", room, "libgrove.a", "-std=c99", "-O1"))
+    note_each_value(given, room, tally, Judged.COST, [room / "program"])
 
 
 def numbers_say_the_same(given: Given, _room: Path, tally: Tally) -> None:
     """The calls over numbers, of what each document's tree, list, plan and flow are in numbers."""
     compared, library = 0, Numbers(LIBRARY / "libgrove.so")
-    for number, document in enumerate(documents_of(given.documents)):
+    for number, document in enumerate(documents_of(given.documents, given.seed)):
         for fault in differences(library, said, document):
             tally.note(f"document {number}, {document!r:.200}", fault)
             compared += 1
@@ -383,15 +393,18 @@ def numbers_say_the_same(given: Given, _room: Path, tally: Tally) -> None:
 
 def rust_says_the_same(given: Given, room: Path, tally: Tally) -> None:
     note_same(given, room, tally, [built_in_rust("answers", room, tally)])
+    note_each_value(given, room, tally, Judged.WHOLE, [built_in_rust("values", room, tally)])
 
 
 def python_says_the_same(given: Given, room: Path, tally: Tally) -> None:
     note_same(given, room, tally, ["python3", "-B", HERE / "answers.py"], env=with_package())
+    words = ["python3", "-B", HERE / "values.py"]
+    note_each_value(given, room, tally, Judged.WHOLE, words, env=with_package())
 
 
 def note_same(given: Given, room: Path, tally: Tally, words: list[str | Path], **how) -> None:
     """Compares the answers of a program that makes each call on each document."""
-    documents, found = documents_of(given.documents), []
+    documents, found = documents_of(given.documents, given.seed), []
     for stream in streams_of(documents, room):
         with stream.open("rb") as source:
             ran = called(*words, stdin=source, text=False, **how)
@@ -403,24 +416,17 @@ def note_same(given: Given, room: Path, tally: Tally, words: list[str | Path], *
     tally.blame("faults among them", None if refused > len(documents) else f"only {refused}")
 
 
-def rust_values_say_the_same(given: Given, room: Path, tally: Tally) -> None:
-    """Plans, checks and judgements of values, which go by numbers, on each document of which there are values."""
-    program = built_in_rust("values", room, tally)
-    note_each_value(given, room, tally, [program])
-
-
-def python_values_say_the_same(given: Given, room: Path, tally: Tally) -> None:
-    note_each_value(given, room, tally, ["python3", "-B", HERE / "values.py"], env=with_package())
-
-
-def note_each_value(given: Given, room: Path, tally: Tally, words: list[str | Path], **how) -> None:
-    """Compares what a program says of values with what grove prints of the documents that they are in."""
-    documents = documents_of(given.documents)
+def note_each_value(
+    given: Given, room: Path, tally: Tally, judged: Judged, words: list[str | Path], **how
+) -> None:
+    """Compares what a program says of values, by numbers, with what grove prints of the documents that they are in, and
+    so with what is said of these."""
+    documents = documents_of(given.documents, given.seed)
     (room / "values.lines").write_bytes(b"".join(map(lines_of, documents)))
     with (room / "values.lines").open("rb") as source:
         ran = called(*words, stdin=source, text=False, **how)
     tally.blame("it ran", None if ran.returncode == 0 else f"status {ran.returncode}: {ran.stderr[-2000:]!r}")
-    note_values(tally, documents, read_answers(ran.stdout), by_program(given.program, documents))
+    note_values(tally, documents, read_answers(ran.stdout), by_program(given.program, documents), judged)
 
 
 def built_in_rust(name: str, room: Path, tally: Tally) -> Path:
@@ -465,8 +471,8 @@ def note_lines(given: Given, count: int, room: Path, tally: Tally, words: list[s
 
 
 @lru_cache(maxsize=1)
-def documents_of(count: int) -> tuple[bytes, ...]:
-    return tuple(all_documents(count, planned))
+def documents_of(count: int, seed: int) -> tuple[bytes, ...]:
+    return tuple(all_documents(count, seed, planned))
 
 
 def planned(document: bytes) -> bytes:
@@ -508,6 +514,7 @@ TRIALS = [
     Trial("valgrind", valgrind, ("cc", "valgrind")),
     Trial("rust", rust, ("cargo", "cargo-fmt", "cargo-clippy")),
     Trial("tokio", tokio, ("cargo", "cargo-fmt", "cargo-clippy", "tokio")),
+    Trial("names", names, ("python3",)),
     Trial("python", python, ("python3",)),
     Trial("types", types, ("mypy",)),
     Trial("locks_of_redis", locks_of_redis, ("python3", "redis-server")),
@@ -519,6 +526,4 @@ TRIALS = [
     Trial("c_store_says_the_same", c_store_says_the_same, ("cc",)),
     Trial("rust_store_says_the_same", rust_store_says_the_same, ("cargo",)),
     Trial("python_store_says_the_same", python_store_says_the_same, ("python3",)),
-    Trial("rust_values_say_the_same", rust_values_say_the_same, ("cargo",)),
-    Trial("python_values_say_the_same", python_values_say_the_same, ("python3",)),
 ]

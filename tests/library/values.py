@@ -11,7 +11,7 @@ import sys
 from collections.abc import Callable, Iterator
 from dataclasses import dataclass, field
 
-from pickbracken import Access, FlowRow, Kind, NoMemory, Plan, Refused, Step, StepKind, Tree, check, judge, plan
+from pickbracken import Access, FlowRow, Kind, NoMemory, Plan, Plans, Refused, Step, StepKind, Tree
 
 NO_VALUES = 7
 
@@ -61,9 +61,12 @@ class Values:
             self.flow().append(FlowRow(words[0], *map(int, words[1:])))
 
 
-
 def plan_said(values: Values) -> str:
-    made = plan(values.tree(), values.accesses)
+    made = values.tree().plan(values.accesses)
+    # A tree of any size is cut to a part for each list. Its siblings stand in the order of their names.
+    plans = Plans(values.weights)
+    wanted = [(access.path, access.length) for access in values.accesses]
+    assert plans.plan(wanted) == Tree.from_paths(plans.weights()).plan(values.accesses)
     steps = [[step.kind, step.of] for step in made.steps]
     rows = [dict(sorted(vars(row).items())) for row in made.flow]
     return f"cost {made.cost}\nplan {compact(steps)}\nflow {compact(rows)}\n"
@@ -71,15 +74,15 @@ def plan_said(values: Values) -> str:
 
 def check_said(values: Values) -> str:
     tree, given = values.tree(), Plan(0, values.proposal(), values.flow())
-    cost = check(tree, values.accesses, given)
-    made = plan(tree, values.accesses)
+    cost = tree.check(values.accesses, given)
+    made = tree.plan(values.accesses)
     # The numbers of a plan that was made are taken as they stand.
-    assert (made.cost, check(tree, values.accesses, made)) == (cost, cost)
+    assert (made.cost, tree.check(values.accesses, made)) == (cost, cost)
     return f"cost {cost}\n"
 
 
 def judge_said(values: Values) -> str:
-    judged = judge(values.tree(), values.accesses, values.proposal())
+    judged = values.tree().judge(values.accesses, values.proposal())
     replies = [reply if isinstance(reply, int) else reply.value for reply in judged.replies]
     return f"cost {judged.cost}\nreplies {compact(replies)}\nrecords {compact(judged.records)}\n"
 

@@ -10,6 +10,9 @@ use std::io::{self, BufWriter, Write};
 /// The document has no values for this call.
 const NO_VALUES: (u8, String) = (7, String::new());
 
+/// A tree with so many more nodes is too large for the library, which gets a part of it with each call.
+const TOO_MANY: usize = 4_096;
+
 /// What a document has.
 #[derive(Default)]
 struct Values<'v> {
@@ -46,14 +49,21 @@ fn documents_in(text: &str) -> impl Iterator<Item = &str> {
 
 fn answers(document: &str) -> [(u8, String); 3] {
     let values = read(document);
-    let tree = values.as_ref().and_then(tree_of);
+    let tree = values.as_ref().and_then(|values| tree_of(values, 0));
     let (Some(values), Some(tree)) = (values, tree) else {
         return [NO_VALUES, NO_VALUES, NO_VALUES];
     };
+    let said = answers_over(&tree, &values);
+    let larger = tree_of(&values, TOO_MANY).expect("a tree");
+    assert_eq!(answers_over(&larger, &values), said, "of a part");
+    said
+}
+
+fn answers_over(tree: &Tree, values: &Values<'_>) -> [(u8, String); 3] {
     [
-        answer(plan_said(&tree, &values)),
-        check_said(&tree, &values).map_or(NO_VALUES, answer),
-        judge_said(&tree, &values).map_or(NO_VALUES, answer),
+        answer(plan_said(tree, values)),
+        check_said(tree, values).map_or(NO_VALUES, answer),
+        judge_said(tree, values).map_or(NO_VALUES, answer),
     ]
 }
 
@@ -108,9 +118,13 @@ fn read(document: &str) -> Option<Values<'_>> {
     (!values.weights.is_empty()).then_some(values)
 }
 
-fn tree_of(values: &Values<'_>) -> Option<Tree> {
-    let tree = Tree::from_paths(values.weights.iter().copied()).ok()?;
-    let is_in_order = tree.paths().eq(values.weights.iter().map(|(path, _)| *path));
+/// The tree, with so many more children of its root behind all others.
+fn tree_of(values: &Values<'_>, more: usize) -> Option<Tree> {
+    let others: Vec<String> = (0..more).map(|number| format!("/ {number}")).collect();
+    let others = others.iter().map(|path| (path.as_str(), 1));
+    let tree = Tree::from_paths(values.weights.iter().copied().chain(others)).ok()?;
+    let own = values.weights.iter().map(|(path, _)| *path);
+    let is_in_order = tree.paths().take(values.weights.len()).eq(own);
     let mut recorded = is_in_order.then_some(tree)?;
     for (path, record) in &values.records {
         recorded = recorded.with_record(path, *record).ok()?;
@@ -139,7 +153,8 @@ fn judge_said(tree: &Tree, values: &Values<'_>) -> Option<Result<String, Error>>
     let judged = tree.judge(&values.list, values.steps.clone()?);
     Some(judged.map(|judged| {
         let replies = joined(judged.replies.into_iter(), write_reply);
-        let records = joined(judged.records.into_iter(), |text, it| write!(text, "{it}"));
+        let records = judged.records.into_iter().take(values.records.len());
+        let records = joined(records, |text, it| write!(text, "{it}"));
         format!("cost {}\nreplies {replies}\nrecords {records}\n", judged.cost)
     }))
 }

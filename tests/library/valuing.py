@@ -1,9 +1,10 @@
-"""Documents as values for a program in Rust (values.rs), one line each, and what the crate says of them beside what the
-program prints of the document."""
+"""Documents as values for a program in each language (values.*), one line each, and what that says of them beside what
+grove prints of the document."""
 
 from __future__ import annotations
 
 import json
+from enum import Enum
 from typing import Any
 
 from comparing import CALLS, Answer, Difference
@@ -11,11 +12,18 @@ from sweeps.program import Tally
 
 # What a program says of a document that has no values for a call.
 NO_VALUES = 7
-# The calls over values, in the order of values.rs.
+# The calls over values, in the order of values.*.
 VALUED = [("plan",), ("check",), ("judge",)]
 AMOUNTS = ("above", "held", "first", "last", "own")
-# The names of faults of what values can't be, as they are values of Rust, or of names that only documents need.
+# The names of faults of what values can't be, as they have types, or of names that only documents need.
 NO_FAULTS = (b"tree ", b"row ", b"shape ", b"bad-json", b"limit whole")
+
+
+class Judged(Enum):
+    """What a judgement by values tells of a list that is done alone."""
+
+    WHOLE = "its cost, its replies and the records after it"
+    COST = "its cost"
 
 
 class NoValue(Exception):
@@ -108,7 +116,9 @@ def line_of(*words: str | int) -> str:
     return line
 
 
-def note_values(tally: Tally, documents: tuple[bytes, ...], found: list[Answer], wanted: list[Answer]) -> None:
+def note_values(
+    tally: Tally, documents: tuple[bytes, ...], found: list[Answer], wanted: list[Answer], judged: Judged
+) -> None:
     """Notes each call of each document of which there are values. Of a plan that isn't proved least the cost is told,
     and not the bound."""
     words, ended = list(CALLS), {0: 0, 1: 0}
@@ -119,9 +129,14 @@ def note_values(tally: Tally, documents: tuple[bytes, ...], found: list[Answer],
         status, told = wanted[document * len(words) + words.index(VALUED[call])]
         if came[0] == NO_VALUES or status == 1 and told.startswith(NO_FAULTS):
             continue
-        right = status, told.rpartition(b" ")[0] if status == 1 and told.startswith(b"value ") else told
+        if status == 1 and told.startswith(b"value "):
+            told = told.rpartition(b" ")[0]
+        if status == 0 and VALUED[call] == ("judge",) and judged is Judged.COST:
+            told = told[: told.index(b"\n") + 1]
+        right = status, told
         fault = None if came == right else str(Difference(document, VALUED[call], came, right))
         tally.note(f"document {document}, {documents[document]!r:.200}: {VALUED[call][0]} of values", fault)
         ended[status] += 1
-    enough = ended[0] > len(documents) // 2 and ended[1] > len(documents) // 20
+    # (A step or a row of no node has no number in C, so fewer faults come there.)
+    enough = ended[0] > len(documents) // 2 and ended[1] > len(documents) // 60
     tally.blame("plans, and faults", None if enough else f"only {ended}")

@@ -32,7 +32,8 @@ LONGEST = 60.0
 
 
 def tries(program: str, room: str) -> list[Try]:
-    others = {"more clients than there are slots": (), "the same with a time to idle": ("--idle", "600")}
+    with_log = ("--idle", "600", "--verbose")
+    others = {"more clients than there are slots": (), "the same with a time to idle and a log": with_log}
     return [
         Try(f"{door.name}, {name}", partial(full, program, door, further))
         for door in DOORS

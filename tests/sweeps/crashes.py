@@ -109,14 +109,16 @@ def opened(many: str, keeping: Keep, runs: Runs, seed: int, most: int, tally: Ta
 
 
 def fault_of_numbers(run: Run, data: bytes) -> str | None:
-    """Whether the file has all numbers of the store after each round, by the form of files."""
+    """Whether the file has all numbers of the store after the last round of each sync, by the form of files."""
     try:
         came = standings_in(data)
     except (IndexError, ValueError, struct.error) as error:
         return f"the file isn't a store's: {error}"
     # (Lines that leave the store as it is have no effect, and what was before the file began isn't in it.)
     wanted = [now for was, now in zip([None, *run.standings], run.standings) if now != was]
-    return None if came == wanted[-len(came) :] else f"wanted {wanted[-1]}; came {came[-1]}, of {len(came)}"
+    further = iter(wanted)
+    is_well = came[-1:] == wanted[-1:] and all(each in further for each in came)
+    return None if is_well else f"wanted {wanted[-1]}; came {came[-1]}, of {len(came)}"
 
 
 # ---- states that are served

@@ -12,18 +12,24 @@ import signal
 import socket
 import subprocess
 import time
-from contextlib import suppress
+from concurrent.futures import ThreadPoolExecutor
+from contextlib import ExitStack, suppress
 from functools import partial
 from pathlib import Path
+from typing import Callable
 
 from exposition import samples_in
+from log_file import Standing, file_of
 from server import NotListening, Server, Serving, connected, free_port, talk, talk_in_turn
-from web import BadResponse, Client
+from store import LEAST, MOST, compact
+from web import BadResponse, Client, Response, post, response_of
 
+from sweeps.descriptors import close_two
 from sweeps.preloaded import library_of
 from sweeps.program import MEMORY, Ran, Tally, Try, because, run
 from sweeps.server_growths import parts_of
 from sweeps.ten_lines import ADD, GET, TREE, WEIGHTS
+from sweeps.threads import counting
 
 TRIED = "servers and readers of a file of rounds"
 NOBODY = 65534
@@ -35,6 +41,18 @@ ROOM, ROUNDS = 4096, 200
 BATCH = b'{"batch":[[["add","/a",1]]]}\n'
 DOCUMENTS = json.loads(TREE)["nodes"]
 FRAME = 40
+# No more rounds are counted.
+MOST_ROUNDS = 2**64 - 1
+# How many letters a name has at most; a path has as many names.
+MOST_LETTERS = 32
+# How many clients a server of a file has whose standard streams are closed, and how many lists are planned at once.
+CLOSED, LISTS = 4, 64
+NOTHING = Response(0, {}, b"")
+# How many lines a client sends ahead, and how often it does.
+AHEAD, TURNS = 16, 20
+PLAN, REWEIGH = b'{"plan":[["get","/a"]]}\n', b'{"reweigh":null}\n'
+# Lines that are a round each, that are answered alone, and that can't be read, each between others.
+MIXED = [ADD, PLAN, ADD, b"{\n", GET, REWEIGH, ADD, b"\n", ADD, WEIGHTS, REWEIGH, ADD, b'{"get":"/a"}\n', PLAN, GET, ADD]
 
 
 def tries(program: str, room: str) -> list[Try]:
@@ -46,8 +64,15 @@ def tries(program: str, room: str) -> list[Try]:
         Try(f"{command}, killed and put up again", partial(killed, program, room, command))
         for command in ("serve", "page")
     ]
+    closed = [
+        Try(f"{command}, closed streams", partial(closed_streams, program, room, command))
+        for command in ("serve", "page")
+    ]
     return [
         *at_both,
+        Try("names of each length", partial(names, program, room)),
+        Try("the last round that is counted", partial(last_round, program, room)),
+        Try("waits of each node", partial(waits, program, room)),
         Try("other documents beside the file", partial(other_documents, program, room)),
         Try("no file, an empty one, and no document", partial(nothing_there, program, room)),
         Try("two servers of one file", partial(taken, program, room)),
@@ -59,7 +84,11 @@ def tries(program: str, room: str) -> list[Try]:
         Try("no room for a round", partial(full, program, room)),
         Try("no room for a round, over HTTP", partial(full_over_http, program, room)),
         Try("what is counted", partial(counted, program, room)),
+        *(Try(f"{clients} with lines ahead", partial(ahead, program, room, clients)) for clients in (1, 16)),
+        Try("all kinds of lines ahead", partial(mixed, program, room)),
         Try("no file is asked for", partial(unasked, program, room)),
+        *closed,
+        Try("workers of a server of a file", partial(workers, program, room, library_of("count_threads", room))),
         *parts_of(program, library, partial(without_memory, room)),
     ]
 
@@ -93,7 +122,7 @@ def with_rounds(program: str, room: str, rounds: int = 3) -> Path:
     """A file with so many rounds, whose server was killed."""
     file = fresh(room)
     with made(program, file) as server:
-        talk(server.port, ADD * rounds)
+        talk_in_turn(server.port, [ADD] * rounds)
     return file
 
 
@@ -153,6 +182,61 @@ def over(server: Server, lines: bytes, command: str) -> bytes:
         return response.body if response else b""
 
 
+def names(program: str, room: str, tally: Tally) -> None:
+    """Names of as many letters as they may have, and as deep as they may be, with records and weights at the ends of
+    their ranges: the file has the document, and a server of it too."""
+    letters = "abcdefghijklmnopqrstuvwxyz0123456789_-"
+    rows = [{"name": "", "parent": None, "value": MOST, "weight": 1000}]
+    for size in range(1, MOST_LETTERS + 1):
+        value, weight = ((LEAST, 1), (MOST, 1000), (-size, size))[size % 3]
+        rows.append({"name": letters[:size], "parent": size - 1, "value": value, "weight": weight})
+    document, file = compact({"nodes": rows, "version": 1}) + b"\n", fresh(room)
+    with made(program, file, document=document):
+        pass
+    tally.compare("the file", run(program, "data", str(file)), Ran(0, document, b""))
+    with opened(program, file, command="page") as server, Client(server.port) as client:
+        response = client.get("/document")
+        tally.note("the server", None if response and response.body == document else f"came {response}")
+
+
+def last_round(program: str, room: str, tally: Tally) -> None:
+    """A store has counted as many rounds as a number of 64 bits says, or one or two less: it takes as many batches more
+    and no further one, and answers all else. A hint says why."""
+    refusal = b'{"error":"rounds","hint":"the store has counted %d rounds, and takes no more batches"}\n' % MOST_ROUNDS
+    for less in (2, 1, 0):
+        file = fresh(room)
+        names, numbers = [(None, b""), (0, b"a")], ((1, 1), (0, 7), (0, 0))
+        file.write_bytes(file_of(bytes(range(32)), names, [Standing(*numbers, MOST_ROUNDS - less)]))
+        reply = b'{"places":[0],"replies":[[%d]],"round":%d}\n'
+        sums = [reply % (8 + at, MOST_ROUNDS - less + 1 + at) for at in range(less)]
+        wanted = b"".join(sums) + 2 * refusal + b'{"waits":[0,0],"weights":[1,1]}\n'
+        with opened(program, file, "--hints") as server:
+            came = server.talk((less + 2) * BATCH + WEIGHTS)
+        tally.note(f"{less} less", None if came == wanted else f"wanted {wanted!r}; came {came!r}")
+        checked = run(program, "data", "--check", str(file))
+        tally.note(f"{less} less, the file", None if checked.out.split()[1] == b"%d" % MOST_ROUNDS else f"{checked}")
+
+
+def waits(program: str, room: str, tally: Tally) -> None:
+    """Nodes that were waited for, as often as is counted and less: each has its own number wherever it is told."""
+    names, paths = [(None, b""), (0, b"a"), (1, b"b"), (0, b"c")], ["/", "/a", "/a/b", "/c"]
+    standing, file = Standing((5, 6, 7, 8), (-1, 2, 3, -4), (1000, 0, 999, 1), 9), fresh(room)
+    file.write_bytes(file_of(bytes(range(32)), names, [standing]))
+    each = zip(paths, standing.records, standing.waits, standing.weights)
+    rows = [dict(zip(("path", "record", "waits", "weight"), row)) for row in each]
+    wanted = compact({"nodes": rows, "round": 9}) + b"\n"
+    with opened(program, file, command="page") as server, Client(server.port) as client:
+        for path in ("/nodes", "/nodes?below=/"):
+            came = client.get(path)
+            tally.note(path, None if came and came.body == wanted else f"wanted {wanted!r}; came {came}")
+        told = json.loads(client.post(WEIGHTS).body)
+        is_well = told == {"waits": [*standing.waits], "weights": [*standing.weights]}
+        tally.note("the line", None if is_well else f"came {told}")
+        samples = samples_in(client.get("/metrics?nodes=1").body.decode())
+        counted = tuple(samples[f'grove_node_waits{{path="{path}"}}'] for path in paths)
+        tally.note("the metrics", None if counted == standing.waits else f"came {counted}")
+
+
 def other_documents(program: str, room: str, tally: Tally) -> None:
     """A document of other values and weights is as good; one of other names is refused by the first path that differs,
     and the file is as it was."""
@@ -164,17 +248,22 @@ def other_documents(program: str, room: str, tally: Tally) -> None:
         tally.note("other values", None if b"[[13]]" in came and b"900" not in came else f"{came!r}")
     more = [*DOCUMENTS, {"parent": 0, "name": "z", "weight": 1}]
     renamed = [*DOCUMENTS[:-1], {**DOCUMENTS[-1], "name": "other"}]
-    for name, nodes, path in (
-        ("a node more", more, "/z"),
-        ("a node less", DOCUMENTS[:-1], f"/{DOCUMENTS[-1]['name']}"),
-        ("another name", renamed, "/other"),
-        ("the root alone", DOCUMENTS[:1], f"/{DOCUMENTS[1]['name']}"),
+    first, last = (f"/{DOCUMENTS[at]['name']}" for at in (1, -1))
+    for name, nodes, path, hint in (
+        ("a node more", more, "/z", hint_of_more("document", "/z", "file")),
+        ("a node less", DOCUMENTS[:-1], last, hint_of_more("file", last, "document")),
+        ("another name", renamed, "/other", f'the document has "/other" where the file has "{last}"'),
+        ("the root alone", DOCUMENTS[:1], first, hint_of_more("file", first, "document")),
     ):
         file.write_bytes(before)
         came = refused(program, file, json.dumps({"nodes": nodes}).encode())
         tally.compare(name, came, Ran(1, f"refused data other-node {path}\n".encode(), b""))
         tally.note(f"{name}, the file", None if file.read_bytes() == before else "it is another one")
-        tally.note(f"{name}, the hint", None if came.hint.startswith(b"hint: the ") else f"{came.hint!r}")
+        tally.note(f"{name}, the hint", None if came.hint == f"hint: {hint}\n".encode() else f"{came.hint!r}")
+
+
+def hint_of_more(has: str, path: str, lacks: str) -> str:
+    return f'the {has} has "{path}", and the {lacks} no node behind those before'
 
 
 def nothing_there(program: str, room: str, tally: Tally) -> None:
@@ -451,6 +540,60 @@ def counted(program: str, room: str, tally: Tally) -> None:
         tally.note("put up again", None if came == [rounds, rounds] else f"{came}")
 
 
+def ahead(program: str, room: str, clients: int, tally: Tally) -> None:
+    """What a client has sent ahead shares a sync, and may share it with what others have. Each line is a round later
+    than the one before it, and what was replied is there after a kill."""
+    file, second = fresh(room), free_port()
+    with made(program, file, "--http", str(second)) as server:
+        server.started.stdout.readline()
+        with ThreadPoolExecutor(clients) as pool:
+            came = list(pool.map(in_turns, [server.port] * clients))
+        with Client(second) as client:
+            response = client.get("/metrics")
+        samples = samples_in(response.body.decode()) if response else {}
+    rounds = [[round_of(reply) for reply in replies] for replies in came]
+    for number, each in enumerate(rounds):
+        is_well = len(each) == AHEAD * TURNS and each == sorted({*each})
+        tally.note(f"the rounds of client {number}", None if is_well else f"{each}")
+    last = max(map(max, rounds))
+    counts = [samples.get(f"grove_{name}") for name in ("rounds_total", "data_rounds", "lines_total")]
+    wanted = [last, last, clients * AHEAD * TURNS]
+    tally.note("the counts", None if counts == wanted else f"wanted {wanted}; came {counts}")
+    syncs = samples.get("grove_data_sync_duration_seconds_count", 0)
+    tally.note("the syncs", None if 0 < syncs <= clients * TURNS else f"{syncs} of {last} rounds")
+    wanted = f"rounds {last}\nbytes {file.stat().st_size}\nwhole\n".encode()
+    tally.compare("afterwards", run(program, "data", "--check", str(file)), Ran(0, wanted, b""))
+
+
+def in_turns(port: int) -> list[bytes]:
+    """Sends so many batches at once, and the next ones when all replies are there."""
+    came = []
+    with connected(port) as connection, connection.makefile("rb") as replies:
+        for _ in range(TURNS):
+            connection.sendall(BATCH * AHEAD)
+            came += [replies.readline() for _ in range(AHEAD)]
+    return came
+
+
+def mixed(program: str, room: str, tally: Tally) -> None:
+    """Lines that are sent at once have the replies that they have one by one, and leave the same."""
+    wanted, wanted_left = kept_of(program, room, talk_in_turn, MIXED)
+    came, came_left = kept_of(program, room, talk, b"".join(MIXED))
+    tally.note("the replies", None if came == wanted else f"wanted {wanted!r}; came {came!r}")
+    tally.note("what is left", None if came_left == wanted_left else f"wanted {wanted_left}; came {came_left}")
+
+
+def kept_of(program: str, room: str, talks: Callable, lines: bytes | list[bytes]) -> tuple[bytes, tuple[Ran, bytes]]:
+    """What lines are replied that a client sends so, and what the file has then: its document, and its waits with the
+    next round."""
+    file = fresh(room)
+    with made(program, file) as server:
+        came = talks(server.port, lines)
+    document = run(program, "data", str(file))
+    with opened(program, file) as server:
+        return came, (document, server.talk(WEIGHTS + GET))
+
+
 def unasked(program: str, room: str, tally: Tally) -> None:
     """Nothing is written, and nothing of a file is counted."""
     folder = fresh(room).parent
@@ -460,3 +603,50 @@ def unasked(program: str, room: str, tally: Tally) -> None:
         tally.note("the counts", "a file is counted" if response is None or b"grove_data" in response.body else None)
         names = sorted(os.listdir(server.room.name))
         tally.note("the folder", None if names == ["tree.json"] and not os.listdir(folder) else f"{names}")
+
+
+# ---- servers of a file alone
+
+
+def closed_streams(program: str, room: str, command: str, tally: Tally) -> None:
+    """Standard input and standard error of a server of a file are closed: no connection, and no file, takes the place
+    of either, so none gets the log."""
+    file = with_rounds(program, room)
+    with opened(program, file, "--verbose", command=command, preexec_fn=close_two) as server, ExitStack() as stack:
+        clients = [stack.enter_context(connected(server.port)) for _ in range(CLOSED)]
+        for number, client in enumerate(clients):
+            came = over_one(client, BATCH, command)
+            tally.note(f"client {number}", None if came == number + 4 else f"it was told {came}")
+        tally.note("the server", None if server.is_running() else "it has ended")
+    checked = run(program, "data", "--check", str(file))
+    tally.note("the file", None if checked.out.startswith(b"rounds %d\n" % (3 + CLOSED)) else f"{checked}")
+    beside = {name: len(text) for name, text in left(file).items() if name != file.name}
+    tally.note("the lock", None if beside == {f"{file.name}.lock": 0} else f"{beside}")
+
+
+def over_one(client: socket.socket, line: bytes, command: str) -> int | None:
+    """The round of the reply, whatever comes; nothing, if it is no reply."""
+    client.sendall(line if command == "serve" else post(line))
+    with client.makefile("rb") as stream:
+        came = stream.readline() if command == "serve" else (response_of(stream, "POST") or NOTHING).body
+    return round_of(came) if came.startswith(b'{"places"') else None
+
+
+def workers(program: str, room: str, library: str, tally: Tally) -> None:
+    """A server of a file plans by as many workers as it is told, as one of a document does: for each further one a
+    thread is started beside that of the connection."""
+    names = [f"n{number}" for number in range(LISTS)]
+    rows = [{"parent": 0, "name": name, "weight": 1} for name in names]
+    document = json.dumps({"nodes": [{"parent": None, "name": "", "weight": 1}, *rows]}).encode()
+    line = json.dumps({"batch": [[["get", f"/{name}"]] for name in names]}).encode() + b"\n"
+    file = fresh(room)
+    with made(program, file, document=document):
+        pass
+    for count in (1, 2, 4):
+        with counting(library) as (how, told):
+            with opened(program, file, "--workers", str(count), **how) as server:
+                server.talk(line)
+            started = told().count(b"+")
+        # (The first one looks after a round that can't be kept, and the second one has the connection.)
+        wanted = 2 + count - 1
+        tally.note(f"{count} workers", None if started == wanted else f"{started} threads were started, not {wanted}")

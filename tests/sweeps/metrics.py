@@ -47,6 +47,8 @@ PLANNED = (
 COLUMNS = ("accepted_connections", "turned_away_connections", "idled_connections", "received_bytes", "sent_bytes")
 PROTOCOLS = ("tcp", "http")
 LINES_CLOSED = (b"".join(LINES), post(b"".join(LINES)))
+# The same with long replies, which are written in pieces.
+LONG_CLOSED = (4000 * WEIGHTS, post(4000 * WEIGHTS))
 LATE = 2
 # A server that keeps its rounds has some families more.
 KEEPING = ("--data", "store.grove")
@@ -54,7 +56,7 @@ KEEPING = ("--data", "store.grove")
 IDLE = ("--idle", "6")
 # Turns, each fourth of which is long, and the least share of the time seen outside that it may have.
 TURNS, LEAST_SHARE = 12, 50
-TIMES = "grove_round_duration_seconds"
+TIMES, SYNCS = "grove_round_duration_seconds", "grove_data_sync_duration_seconds"
 STEPS = ("1", "2", "5")
 BOUNDS = (*(f"0.{'0' * zeros}{step}" for zeros in (4, 3, 2, 1, 0) for step in STEPS), "1", "2", "5", "10", "+Inf")
 LEAVES = [f"n{number}" for number in range(1, 2000)]
@@ -62,6 +64,12 @@ ROOT = {"parent": None, "name": "", "weight": 5}
 LARGE = json.dumps({"nodes": [ROOT] + [{"parent": 0, "name": name, "weight": 1} for name in LEAVES]}).encode()
 LISTS = [[["get", f"/{LEAVES[(at * 7 + each * 13) % len(LEAVES)]}"] for each in range(64)] for at in range(256)]
 LONG_LINE = json.dumps({"batch": LISTS}).encode() + b"\n"
+# How much longer a sync takes here, in microseconds, and how many rounds there are.
+SYNC_MICROS, SYNCED = (0, 30_000), 6
+# A file is written anew at the first round behind more bytes of rounds than this.
+MOST_BEHIND = 4 * 1024 * 1024
+# What each refused line is counted by, once by each port.
+HINTS = Path(__file__).parents[1] / "line_hints.json"
 # How many looks wait, and within how many seconds they have left their slots.
 LOOKS, SOON = 8, 10.0
 MEMORY = "process_resident_memory_bytes"
@@ -99,6 +107,9 @@ def tries(program: str, room: str) -> list[Try]:
         Try("connections that idle or find no slot", partial(idle_and_busy, program)),
         Try("what comes and goes at each port", partial(columns, program)),
         Try("how long turns take", partial(times_of_turns, program)),
+        Try("how long syncs take", partial(times_of_syncs, program, room)),
+        Try("a file that is written anew", partial(bytes_of_file, program, room)),
+        Try("each name of a refused line", partial(each_name, program)),
         Try("at a page alone", partial(at_a_page, program)),
         Try("the families", partial(families, program)),
         Try("what promtool says", partial(checked, program)),
@@ -379,8 +390,8 @@ def columns(program: str, tally: Tally) -> None:
         looking, happened = Looking(server.http), [[0] * len(COLUMNS), [0] * len(COLUMNS)]
         for at, port in enumerate((server.port, server.http)):
             count, sent, came = 3 + at, 0, 0
-            for _ in range(count):
-                text = LINES_CLOSED[at]
+            for number in range(count):
+                text = (LINES_CLOSED if number else LONG_CLOSED)[at]
                 sent, came = sent + len(text), came + len(server_said(port, text))
             happened[at] = [count, 0, 0, sent, came]
             wanted = dict(zip(names, zip(*happened)))
@@ -434,16 +445,86 @@ def times_of_turns(program: str, tally: Tally) -> None:
             least = passed / LEAST_SHARE if line == LONG_LINE else 0.0
             is_well = least <= took <= passed and reply.startswith((b'{"places"', b'{"waits"'))
             tally.note(f"turn {number}", None if is_well else f"of {passed:.6f} s {took:.6f} s were counted")
-            note_bucket(before, after, took, f"turn {number}", tally)
+            note_bucket(TIMES, before, after, took, f"turn {number}", tally)
             before = after
 
 
-def note_bucket(before: dict[str, float], after: dict[str, float], took: float, where: str, tally: Tally) -> None:
+def note_bucket(
+    family: str, before: dict[str, float], after: dict[str, float], took: float, where: str, tally: Tally
+) -> None:
     """Just the buckets of bounds that aren't less have one more."""
     for bound in BOUNDS:
-        key = f'{TIMES}_bucket{{le="{bound}"}}'
+        key = f'{family}_bucket{{le="{bound}"}}'
         more, wanted = after[key] - before[key], 1 if took <= float(bound) else 0
         tally.note(f"{where}, {bound}", None if more == wanted else f"of a time of {took} came {more}")
+
+
+def times_of_syncs(program: str, room: str, tally: Tally) -> None:
+    """Of each round that is kept the time of its sync is within what passed outside, and no less than the sync took, in
+    the bucket of the least bound that it is within. What the file has is counted too."""
+    library, file = library_of("slow_syncs", room), Path(room, "synced.grove")
+    for micros in SYNC_MICROS:
+        surroundings = {**os.environ, "LD_PRELOAD": library, "SYNC_MICROS": str(micros)}
+        with Both(program, "--data", str(file), env=surroundings) as server:
+            before = metrics_at(server.http)
+            for number in range(SYNCED):
+                started = time.monotonic()
+                server.talk(ADD)
+                passed, after = time.monotonic() - started, metrics_at(server.http)
+                took = round(after[SYNCS + "_sum"] - before[SYNCS + "_sum"], 6)
+                where, is_well = f"round {number} with {micros}", micros / 1_000_000 <= took <= passed
+                tally.note(where, None if is_well else f"of {passed:.6f} s {took:.6f} s were counted")
+                note_bucket(SYNCS, before, after, took, where, tally)
+                wanted = {SYNCS + "_count": number + 1, "grove_data_bytes": file.stat().st_size}
+                note(wanted, after, where, tally)
+                before = after
+        file.unlink()
+
+
+def bytes_of_file(program: str, room: str, tally: Tally) -> None:
+    """Rounds until a file is written anew, which is at the first one behind so many bytes of rounds, and some more:
+    after each the bytes that are counted are those of the file, and each has its sync."""
+    file, count = Path(room, "anew.grove"), len(LEAVES)
+    # The places and values of all leaves, and of the count of rounds, in a frame.
+    each = 40 + 12 * (count + 1)
+    most = MOST_BEHIND // each + 1
+    lists = [[["add", f"/{name}", 1] for name in LEAVES[at::32]] for at in range(32)]
+    line = json.dumps({"batch": lists}).encode() + b"\n"
+    with Both(program, "--data", str(file), document=LARGE) as server, connected(server.port) as client:
+        replies = client.makefile("rb")
+        first = file.stat().st_size
+        for rounds in range(1, most + 4):
+            client.sendall(line)
+            replies.readline()
+            behind = rounds if rounds <= most else rounds - most - 1
+            wanted = {"grove_data_rounds": rounds, "grove_data_bytes": first + each * behind, SYNCS + "_count": rounds}
+            size = file.stat().st_size
+            tally.note(f"round {rounds}", None if size == first + each * behind else f"the file has {size} bytes")
+            if rounds < 3 or rounds > most - 3:
+                note(wanted, metrics_at(server.http), f"round {rounds}", tally)
+
+
+def each_name(program: str, tally: Tally) -> None:
+    """Lines that are refused by each name that there is, some of them more often than others: each is counted by its
+    own name, whatever port it came to."""
+    document = (Path(__file__).parents[2] / "examples/two-leaves.json").read_bytes()
+    rows = json.loads(HINTS.read_text())
+    wanted: dict[str, int] = {}
+    with Both(program, document=document) as server, Client(server.http) as client:
+        for number, row in enumerate(rows):
+            line = row["line"].encode() + b"\n"
+            if number % 2:
+                client.post(line)
+            else:
+                server.talk(line)
+            wanted[row["error"]] = wanted.get(row["error"], 0) + 1
+        client.post(b"x" * (MOST_LINE + 1) + b"\n")
+        came = metrics_at(server.http)
+    right = refused({**wanted, "long-line": 1})
+    counted = {key: value for key, value in came.items() if key.startswith("grove_refused_lines_total")}
+    for key in {*right, *counted}:
+        told = f"wanted {right.get(key)}; came {counted.get(key)}"
+        tally.note(key, None if right.get(key) == counted.get(key) else told)
 
 
 def at_a_page(program: str, tally: Tally) -> None:

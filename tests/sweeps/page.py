@@ -67,6 +67,8 @@ FALLS = r"1 weight of 3 would fall, the greatest from [0-9]+ to [0-9]+, and none
 ASKS = re.compile(r"No node has waits\. So " + FALLS)
 # How long a click that does nothing is watched.
 SHORT = 0.3
+# For longer than a server takes to look whether a client that waits has left, and how often something comes behind.
+LOOKED_AGAIN, BEHIND = 1.5, 2
 # The fields of requests that a page sends: the first three are of a page of the server.
 ORIGINS = [
     (f"origin: http://{HOST}",),
@@ -178,6 +180,7 @@ def tries(program: str, room: str) -> list[Try]:
         Try("nodes below each", partial(below_each, program)),
         Try("waiting for a round", partial(waiting, program)),
         Try("waiting in vain", partial(waiting_in_vain, program)),
+        Try("requests behind a look that waits", partial(behind_a_wait, program)),
         Try("a server that is stopped", partial(stopped, program)),
         Try("connections", partial(connections, program)),
         Try("sixteen at once", partial(sixteen_at_once, program, SECONDS)),
@@ -478,6 +481,25 @@ def waiting(program: str, tally: Tally) -> None:
         note_rows(asks, store, [("POST", "/", b'{"reweigh":null}'), ("POST", "/", WEIGHTS), LOOK], "no round", tally)
         for client in (waits[-1], far):
             tally.note("no later round", None if is_silent(client.connection) else "a look is answered")
+
+
+def behind_a_wait(program: str, tally: Tally) -> None:
+    """What is sent behind a look that waits ends no wait, and is answered once the look is; then the connection waits
+    for requests as ever."""
+    store = Store(json.loads(TREE))
+    with serving(program, TREE) as server, Client(server.port) as asks, Client(server.port) as waits:
+        for number in range(BEHIND):
+            look, behind = ("GET", f"/nodes?after={store.rounds}", None), ("POST", "/", WEIGHTS)
+            waits.send(request(*look))
+            time.sleep(SHORT)
+            waits.send(request(*behind))
+            time.sleep(LOOKED_AGAIN)
+            tally.note("the look", None if is_silent(waits.connection) else "it is answered")
+            note_rows(asks, store, [("POST", "/", ADD)], f"round {number}", tally)
+            for row in (look, behind):
+                note_row(store, row, waits.next(), f"round {number}, {row[1]}", tally)
+            time.sleep(LOOKED_AGAIN)
+            note_rows(waits, store, [LOOK], f"after round {number}", tally)
 
 
 def waiting_in_vain(program: str, tally: Tally) -> None:

@@ -6,15 +6,20 @@ hint."""
 from __future__ import annotations
 
 import json
+import re
+import time
+from contextlib import ExitStack
 
 from server import NotListening, Serving, ask_in_turn, connected, talk_in_turn
 from store import Store
+from web import Client, Response
 
+from sweeps.doors import DOORS, SLOTS, Asking
 from sweeps.preloaded import library_of
 from sweeps.program import MEMORY, Ran, Tally, Try
 from sweeps.server_growths import parts_of
 from sweeps.talks import lines_of, note_replies
-from sweeps.ten_lines import REPLIES, TEXT, TREE
+from sweeps.ten_lines import REPLIES, TEXT, TREE, WEIGHTS
 from sweeps.verbose import LINES, Telling, arrival, ended, fits, refusals, threadless_line
 
 TRIED = "growths of a server refused, each alone, and the lines asked after it"
@@ -27,6 +32,7 @@ def tries(program: str, room: str) -> list[Try]:
     return [
         *parts_of(program, library, ask_twice),
         *parts_of(program, library, tell_twice, ", verbose"),
+        *parts_of(program, library, tell_of_requests, ", verbose, over HTTP"),
     ]
 
 
@@ -42,8 +48,19 @@ def ask_twice(program: str, how: dict, where: str, tally: Tally) -> None:
             store = Store(json.loads(TREE))
             note_replies(store, b"".join(TEXT.splitlines(keepends=True)[: came.count(b"\n")]), came, where, tally)
             note_replies(store, TEXT, server.talk(TEXT), f"{where}, after it", tally)
+            note_slots(server, where, tally)
     except NotListening as ended:
         tally.compare(where, Ran(*ended.ended), MEMORY)
+
+
+def note_slots(server: Serving, where: str, tally: Tally) -> None:
+    """As many clients as there are slots are answered at once: none was kept by a connection that has ended."""
+    with ExitStack() as stack:
+        clients = [stack.enter_context(Asking(DOORS[0], server.port, WEIGHTS)) for _ in range(SLOTS)]
+        for client in clients:
+            client.send()
+        came = [client.door.reply_in(client.stream)[:10] for client in clients]
+    tally.note(f"{where}, the slots", None if came == [b'{"waits":['] * SLOTS else f"came {came}")
 
 
 def tell_twice(program: str, how: dict, where: str, tally: Tally) -> None:
@@ -84,3 +101,42 @@ def session_told(server: Telling, store: Store, where: str, tally: Tally) -> str
 def is_hintless(want: str, came: str) -> bool:
     """Is this the line that is wanted, without its hint?"""
     return want.endswith("; hint") and came == want.removesuffix("; hint")
+
+
+def tell_of_requests(program: str, how: dict, where: str, tally: Tally) -> None:
+    """Over HTTP a connection that has its response ends as others do. One that has none may have ended for want of
+    memory, and for nothing else."""
+    try:
+        with Telling(program, door=DOORS[1], **how) as server:
+            with Client(server.port) as client:
+                response = posted(client, b"".join(LINES))
+            told = end_told(server)
+            forms = [ended_by("info", "requests-ended")]
+            forms += [] if response else [ended_by("error", "memory"), threadless_line(1)]
+            is_told = any(re.fullmatch(form, told) for form in forms)
+            tally.note(where, None if is_told else f"beside {response} came {told!r}")
+    except NotListening as not_listening:
+        status, out, _ = not_listening.ended
+        tally.note(where, None if (status, out) == (MEMORY.status, b"") else f"it ended with {status}, {out!r}")
+
+
+def ended_by(level: str, why: str) -> str:
+    return f"level={level} event=ended connection=1 lines=[0-9]+ why={why}"
+
+
+def posted(client: Client, lines: bytes) -> Response | None:
+    try:
+        return client.post(lines)
+    except ConnectionError:
+        return None
+
+
+def end_told(server: Telling) -> str:
+    """What is logged of the end of the only connection, or that it has no thread; nothing, if that takes too long."""
+    ends = time.monotonic() + LONGEST
+    while time.monotonic() < ends:
+        for line in server.told():
+            if re.match("level=[a-z]+ event=(ended|no-thread) ", line):
+                return line
+        time.sleep(0.01)
+    return ""

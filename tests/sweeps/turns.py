@@ -13,13 +13,13 @@ from functools import partial
 from batches import MOST_ACCESSES
 from server import Serving, connected
 from store import compact
-from web import Client, post, request
+from web import Client, Response, post, request
 
 from sweeps.looks import ADD_ONE, FLAT, comes_to_wait, holding, two_new_lists
 from sweeps.metrics import LARGE, LISTS, TIMES, Both, metrics_at, note_bucket
 from sweeps.preloaded import library_of
 from sweeps.program import Tally, Try, until_well
-from sweeps.ten_lines import ADD, TREE
+from sweeps.ten_lines import ADD, TREE, WEIGHTS
 
 TRIED = "turns at the store"
 # How many lines come to wait: each bound of a bucket, one more, and one more than a turn has.
@@ -42,6 +42,7 @@ NEVER = "/nodes?after=18446744073709551615"
 def tries(program: str, room: str) -> list[Try]:
     held, clock = library_of("hold_threads", room), library_of("fast_clock", room)
     parts = [Try(f"turns of {count} lines", partial(together, program, held, count)) for count in COUNTS]
+    parts += [Try("lines that a turn leaves over", partial(left_over, program, held))]
     parts += [Try(f"times by a clock {times} times as fast", partial(timed, program, clock, times)) for times in CLOCKS]
     return parts + [
         Try("how soon a round is told of", partial(told_soon, program)),
@@ -52,6 +53,28 @@ def tries(program: str, room: str) -> list[Try]:
 def together(program: str, library: str, count: int, tally: Tally) -> None:
     """While a turn is held, so many lines come to wait, each of its own client. They have one turn, but for those
     beyond the most that one has."""
+    _, more = behind_a_turn(program, library, count * [ADD_ONE], tally)
+    note_sizes([1, min(count, MOST_LINES), *([count - MOST_LINES] if count > MOST_LINES else [])], more, tally)
+
+
+def left_over(program: str, library: str, tally: Tally) -> None:
+    """While a turn is held, a line comes to wait that is answered alone, and then two that add. It has a turn by itself,
+    which leaves them over; they have the next one, and their places in it by the order in which they came."""
+    (weights, *adds), more = behind_a_turn(program, library, [WEIGHTS, ADD_ONE, ADD_ONE], tally)
+    note_sizes([1, 1, 2], more, tally)
+    wanted = [{"places": [place], "replies": [[place + 1]], "round": 2} for place in range(2)]
+    came = [json.loads(response.body) for response in adds]
+    tally.note("the lines that are left", None if came == wanted else f"wanted {wanted}; came {came}")
+    is_well = json.loads(weights.body).get("weights") == [1] * len(FLAT)
+    tally.note("the line alone", None if is_well else f"came {weights}")
+
+
+def behind_a_turn(
+    program: str, library: str, lines: list[bytes], tally: Tally
+) -> tuple[list[Response], dict[str, float]]:
+    """Holds a turn while these lines come to wait in turn, each of its own client. Gives the responses to them, and how
+    much more is counted of how many lines turns have."""
+    count = len(lines)
     with ExitStack() as stack:
         # (A thread of each client, and the one that accepts them.)
         held = stack.enter_context(holding(library, 1 + count + 2))
@@ -63,13 +86,17 @@ def together(program: str, library: str, count: int, tally: Tally) -> None:
         before = counted_lines(runs)
         runs.send(post(two_new_lists(0)))
         tally.note("the turn that is held", None if held.is_held() else "it starts no thread")
-        for client in waiting:
-            comes_to_wait(server, partial(client.send, post(ADD_ONE)))
+        for client, line in zip(waiting, lines, strict=True):
+            comes_to_wait(server, partial(client.send, post(line)))
         held.let_go(runs)
-        came = [client.next().status for client in (runs, *waiting)]
-        tally.note("the responses", None if came == [200] * (1 + count) else f"came {came}")
-        more = {key: value - before[key] for key, value in counted_lines(runs).items()}
-    sizes = [1, min(count, MOST_LINES), *([count - MOST_LINES] if count > MOST_LINES else [])]
+        responses = [client.next() for client in (runs, *waiting)]
+        statuses = [response.status for response in responses]
+        tally.note("the responses", None if statuses == [200] * (1 + count) else f"came {statuses}")
+        return responses[1:], {key: value - before[key] for key, value in counted_lines(runs).items()}
+
+
+def note_sizes(sizes: list[int], more: dict[str, float], tally: Tally) -> None:
+    """What is counted more is that of turns of so many lines."""
     wanted = {f'{LINES}_bucket{{le="{bound}"}}': sum(size <= bound for size in sizes) for bound in LINE_BOUNDS}
     wanted |= {f'{LINES}_bucket{{le="+Inf"}}': len(sizes), f"{LINES}_count": len(sizes), f"{LINES}_sum": sum(sizes)}
     tally.note("the turns", None if more == wanted else f"wanted {wanted}; came {more}")
@@ -108,7 +135,7 @@ def note_turn(
     took = round(after[TIMES + "_sum"] - before[TIMES + "_sum"], 6)
     is_well = 0 < took <= passed and reply.startswith((b'{"places"', b'{"error":"bad-json"'))
     tally.note(where, None if is_well else f"of {passed:.6f} s {took:.6f} s were counted; {reply[:40]!r}")
-    note_bucket(before, after, took, where, tally)
+    note_bucket(TIMES, before, after, took, where, tally)
     return after
 
 

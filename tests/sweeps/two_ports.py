@@ -14,6 +14,7 @@ from server import HOST, BadServer, Serving, connected, free_port
 from store import Store
 from web import Client, request, responses_in
 
+from sweeps.doors import DOORS, Door
 from sweeps.metrics import Both, metrics_at
 from sweeps.program import DEVICE, Ran, Tally, Try, because, until_well
 from sweeps.talks import note_replies
@@ -39,6 +40,8 @@ STATES = (
     b"GET /health HTTP/1.0\r\n\r\n",
     b"GET /health HTTP/1.0\r\nconnection: keep-alive\r\n\r\n",
 )
+# How often a slot is left to one of eight, and how long the ninth may wait then.
+PLACES_LEFT, LONG = 4, 20.0
 # The longest head of a request that is answered without a slot, and within how many seconds it has to come.
 MOST_HEAD, HEAD_SECONDS = 2048, 1.0
 # The most nodes of a tree.
@@ -51,7 +54,8 @@ def tries(program: str, room: str) -> list[Try]:
         Try("the lines that are printed", partial(printed, program)),
         Try("slots of each port", partial(slots_of_each, program)),
         Try("as many slots as are asked for", partial(slots_asked_for, program)),
-        Try("names", partial(names, program)),
+        Try("names", partial(names, program, DOORS[2])),
+        Try("names of a page", partial(names, program, DOORS[1])),
         Try("a port that is taken", partial(taken, program)),
         Try("a log of both", partial(log_of_both, program)),
         Try("the state beside slow clients", partial(state_beside_slow, program, ())),
@@ -61,6 +65,7 @@ def tries(program: str, room: str) -> list[Try]:
         Try("who waits without a slot", partial(waits_without_slot, program)),
         Try("who is turned away without a slot", partial(turned_away, program)),
         Try("as many without a slot as there may be", partial(as_many_without_slot, program)),
+        Try("the place of who gets a slot", partial(place_left, program)),
         Try("heads about as long as they may be without a slot", partial(longest_head, program)),
         Try("heads that come late without a slot", partial(late_heads, program)),
     ]
@@ -119,12 +124,12 @@ def slots_asked_for(program: str, tally: Tally) -> None:
             tally.note(f"one beyond {count}", None if response.status == 503 else f"came {response}")
 
 
-def names(program: str, tally: Tally) -> None:
+def names(program: str, door: Door, tally: Tally) -> None:
     """Requests may name a host that `--host` gives, in any case, and no other."""
     given = ("--host", "grove.example", "--host", "Other.Example")
     wanted = {"grove.example": 200, "GROVE.example:80": 200, "other.example": 200, "localhost": 200, HOST: 200}
     wanted |= {"elsewhere.example": 421, "grove.example.": 421, "a.grove.example": 421}
-    with Both(program, *given) as server, Client(server.http) as client:
+    with door.serving(program, further=given) as server, Client(server.port) as client:
         for host, status in wanted.items():
             response = client.ask("GET", "/health", None, f"host: {host}")
             tally.note(f"the host {host}", None if response.status == status else f"came {response}")
@@ -284,6 +289,23 @@ def turned_away(program: str, tally: Tally) -> None:
             tally.note(f"{text[:20]!r}", None if came.startswith(b"HTTP/1.1 503 ") else f"came {came!r}")
         with Client(server.http) as client:
             tally.note("health", None if client.get("/health").status == 200 else "it isn't answered")
+
+
+def place_left(program: str, tally: Tally) -> None:
+    """Eight wait without a slot and say nothing. A ninth waits in the system until one of them gets the slot, and keeps
+    it: then the ninth has the place that is left, though nobody leaves."""
+    for turn in range(PLACES_LEFT):
+        with Both(program, "--http-seats", "1") as server, ExitStack() as stack:
+            slow = take_slots(stack, server.http, 1, b"POST / HTTP/1.1\r\n")
+            time.sleep(SOON)
+            take_slots(stack, server.http, ROOM, b"")
+            late = stack.enter_context(Client(server.http))
+            late.send(request("GET", "/health"))
+            time.sleep(HEAD_SECONDS * 1.5)
+            slow[0].close()
+            late.connection.settimeout(LONG)
+            response = late.next()
+            tally.note(f"turn {turn}", None if response and response.status == 200 else f"came {response}")
 
 
 def as_many_without_slot(program: str, tally: Tally) -> None:

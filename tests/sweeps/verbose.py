@@ -13,6 +13,7 @@ import tempfile
 import time
 from concurrent.futures import ThreadPoolExecutor
 from contextlib import ExitStack
+from datetime import datetime
 from functools import partial
 from pathlib import Path
 from random import Random
@@ -54,6 +55,8 @@ LONGEST = 60.0
 # How long a minute is waited for, and how long after it is late, or what doesn't wait for it.
 MINUTE, LATE = 60.0, 30.0
 MINUTE_BEGINS = "level=info event=minute "
+# Times to idle, how much sooner and later an end may be logged, and how often a machine with other work may be late.
+IDLE_SECONDS, SOONER, LATER, FEW_TRIES = (1, 2), 0.01, 1.0, 5
 # How many times as fast a clock may go, and what is logged of minutes by it: the lines of each, and what they come to.
 CLOCK_TIMES = 30
 # So much longer a minute may take than as many seconds that are waited for one by one.
@@ -66,6 +69,8 @@ MINUTES = (
     (ADD * 148 + LONG_LINE * 2, 2, 1, "lines=150 refused=0 connections=3 rounds=150 waits=0"),
     (ADD * 141 + SHAPE * 8 + LONG_LINE, 1, 0, "lines=150 refused=8 connections=4 rounds=142 waits=0"),
     (GET * 6 + WEIGHTS + LONG_LINE * 8, 0, 2, "lines=15 refused=0 connections=6 rounds=14 waits=0"),
+    (WEIGHTS * 3 + SHAPE, 0, 0, "lines=4 refused=1 connections=6 rounds=0 waits=0"),
+    (b"x" * (MOST_LINE + 1) + b"\n", 1, 0, "lines=1 refused=1 connections=7 rounds=0 waits=0"),
 )
 # What is told where there is no descriptor.
 WANTS_DESCRIPTOR = "level=error event=no-descriptor"
@@ -80,7 +85,9 @@ def tries(program: str, room: str) -> list[Try]:
         "the same as objects": partial(in_turn, program, ("--log", "json")),
         "connections that idle": partial(idle, program),
         "connections that take nothing": partial(taking_nothing, program),
+        "how long connections idle": partial(how_long, program),
         "connections without a slot": partial(busy, program),
+        "connections without a slot that ask for the state": partial(state_told, program),
         "connections without a thread": partial(threadless, program, threads),
         "no descriptor, twice": partial(no_descriptor_again, program),
         "at an address of IPv6": partial(at_another_address, program),
@@ -91,7 +98,8 @@ def tries(program: str, room: str) -> list[Try]:
         "standard error that fails": partial(no_errors, program),
         "without --verbose": partial(quiet, program),
     }
-    parts = [Try(f"{door.name}, {name}", partial(call, door)) for door in DOORS for name, call in at_each.items()]
+    pairs = [(door, name) for door in DOORS for name in at_each if door.is_http or "state" not in name]
+    parts = [Try(f"{door.name}, {name}", partial(at_each[name], door)) for door, name in pairs]
     # (The longest one first: the others come beside it.)
     return [Try("minutes", partial(minutes, program)), *parts] + [
         Try("no thread for the second port", partial(no_second_port, program, threads)),
@@ -332,9 +340,11 @@ def number_of(port: int, told: list[str]) -> int:
 def long_line(program: str, door: Door, tally: Tally) -> None:
     """A line that is too long, between others, is counted and logged too."""
     text = ADD + b"x" * (MOST_LINE + 1) + b"\n" + SHAPE
+    why = f"the line has more than the {MOST_LINE} bytes that are taken, and wasn't looked into"
+    long = f'level=warn event=refused connection=1 line=2 error=long-line hint="{why}"'
     with Telling(program, door=door) as server, connected(server.port) as client:
         came = ask(client, text, door)
-        wanted = [arrival(1, client), *refusals(1, came), done(1, 3, door)]
+        wanted = [arrival(1, client), long, refusal(1, 3, "shape"), done(1, 3, door)]
         tally.note("the names", None if came.count(b"long-line") == 1 else f"came {came!r}")
         compare(wanted, server.told_of(len(wanted)), tally)
 
@@ -402,6 +412,42 @@ def taking_nothing(program: str, door: Door, tally: Tally) -> None:
         tally.note("the end", None if re.fullmatch(wanted, came) else f"came {came!r}")
 
 
+def how_long(program: str, door: Door, tally: Tally) -> None:
+    """By the times of the log a connection idles as long as it may, and little longer: one that says nothing, and one
+    that says nothing behind a line. One that takes nothing may be waited for twice: until a part of a reply is taken,
+    and then the next. It is tried until a machine with other work is in time."""
+    for seconds in IDLE_SECONDS:
+        until_well(partial(idled, program, door, seconds, tally), f"{seconds} s", tally, FEW_TRIES)
+
+
+def idled(program: str, door: Door, seconds: int, tally: Tally) -> str | None:
+    """How long a connection idled, if that was too long."""
+    with Telling(program, ("--idle", str(seconds)), document=large_tree(), door=door) as server, ExitStack() as room:
+        clients = [room.enter_context(how(server.port)) for how in (connected, connected, narrow)]
+        clients[1].sendall(door.sent(ADD))
+        clients[2].sendall(UNTAKEN[door.protocol][0])
+        server.told_of(2 * len(clients))
+        times = times_of(server.lines())
+    for number, most in enumerate((seconds, seconds, 2 * seconds), 1):
+        took = times.get(number, 0.0)
+        tally.note(f"connection {number}", None if took >= seconds - SOONER else f"it idled for {took:.3f} s")
+        if took > most + LATER:
+            return f"connection {number} idled for {took:.3f} s"
+    return None
+
+
+def times_of(lines: list[str]) -> dict[int, float]:
+    """How long it took from the arrival of each connection to its end, by the log."""
+    came, took = dict[int, datetime](), dict[int, float]()
+    for line in lines:
+        found = re.match(r"time=(\S+)Z level=info event=(accepted|ended) connection=([0-9]+) ", line)
+        if found:
+            time_of, number = datetime.fromisoformat(found[1]), int(found[3])
+            came.setdefault(number, time_of)
+            took[number] = (time_of - came[number]).total_seconds()
+    return took
+
+
 def endless(program: str, tally: Tally) -> None:
     """A connection that goes on sending, and never a line feed, idles too."""
     with Telling(program, ("--idle", "1")) as server, connected(server.port) as client:
@@ -433,6 +479,21 @@ def busy(program: str, door: Door, tally: Tally) -> None:
         wanted.append(done(1, 0, door))
         compare(wanted, server.told_of(len(wanted)), tally)
         admitted(server, door, SLOTS + 3, wanted)
+        compare(wanted, server.told_of(len(wanted)), tally)
+
+
+def state_told(program: str, door: Door, tally: Tally) -> None:
+    """All slots are taken. Who asks for the state comes and goes as others do, and has no line answered."""
+    wanted = []
+    with Telling(program, door=door) as server, ExitStack() as room:
+        for number in range(1, SLOTS + 1):
+            wanted.append(arrival(number, room.enter_context(connected(server.port))))
+            server.told_of(number)
+        for number, path in enumerate(("/health", "/metrics", "/health?x"), SLOTS + 1):
+            with Client(server.port) as client:
+                wanted += [arrival(number, client.connection), ended(number, 0, "requests-ended")]
+                tally.note(path, None if client.get(path).status == 200 else "it isn't told")
+            server.told_of(len(wanted))
         compare(wanted, server.told_of(len(wanted)), tally)
 
 
@@ -539,7 +600,7 @@ def hints(program: str, door: Door, tally: Tally) -> None:
     rows = json.loads((TOP / "tests/line_hints.json").read_text())
     plain = [compact({"error": row["error"]}) for row in rows]
     hinted = [compact({"error": row["error"], "hint": row["hint"].removeprefix("hint: ")}) for row in rows]
-    for words, wanted in (((), plain), (("--hints",), hinted)):
+    for words, wanted in (((), plain), (("--hints",), hinted), (("--log", "json"), plain)):
         note_hints(program, door, rows, words, wanted, tally)
 
 
@@ -606,7 +667,7 @@ def minutes(program: str, tally: Tally) -> None:
         with connected(server.first) as client:
             ask(client, text)
         stay(room, server, 2, 3)
-        wanted = f"lines=5 refused=2 connections=5 rounds=2 waits=0 {times_between(before, metrics_at(server.port))}"
+        wanted = f"lines=5 refused=2 connections=5 rounds=2 waits=0{times_between(before, metrics_at(server.port))}"
         told = minutes_told(server, 1, MINUTE + LATE)
         after = time.monotonic() - started
         tally.note("the event", None if told == [MINUTE_BEGINS + wanted] else f"wanted {wanted!r}; came {told}")
@@ -641,15 +702,17 @@ def minutes_told(server: Telling, count: int, seconds: float) -> list[str]:
 
 def times_between(before: dict[str, float], after: dict[str, float]) -> str:
     """The fields of a minute for how long its turns took, by what `/metrics` had before and after them: the least
-    bounds that half of them, and 99 of 100, were within."""
+    bounds that half of them, and 99 of 100, were within. Without turns there are none."""
     count = after[ALL_TIMES] - before[ALL_TIMES]
+    if not count:
+        return ""
     found = {key: BUCKET.fullmatch(key) for key in after}
     within = {float(bound[1]): after[key] - before[key] for key, bound in found.items() if bound}
     bounds = [
         min((bound for bound, least in within.items() if least * 100 >= count * share), default=max(within))
         for share in (50, 99)
     ]
-    return f"round_median_seconds={bounds[0]:.6f} round_p99_seconds={bounds[1]:.6f}"
+    return f" round_median_seconds={bounds[0]:.6f} round_p99_seconds={bounds[1]:.6f}"
 
 
 def minutes_on_end(program: str, library: str, tally: Tally) -> None:
@@ -663,14 +726,15 @@ def fast(library: str) -> dict[str, str]:
 
 
 def some_minutes(program: str, surroundings: dict[str, str], tally: Tally) -> str | None:
-    """What is wrong with what is logged of minutes with lines, after each of which comes a quiet one."""
-    with Telling(program, door=DOORS[2], env=surroundings) as server, ExitStack() as room:
+    """What is wrong with what is logged of minutes with lines, after each of which comes a quiet one. As objects they
+    have the same fields."""
+    with Telling(program, ("--log", "json"), door=DOORS[2], env=surroundings) as server, ExitStack() as room:
         for number, (text, sessions, requests, wanted) in enumerate(MINUTES, 1):
             before = metrics_at(server.port)
             with connected(server.first) as client:
                 ask(client, text)
             stay(room, server, sessions, requests)
-            wanted = f"{MINUTE_BEGINS}{wanted} {times_between(before, metrics_at(server.port))}"
+            wanted = f"{MINUTE_BEGINS}{wanted}{times_between(before, metrics_at(server.port))}"
             told = minutes_told(server, number, LATE)
             if told[number - 1 :] != [wanted]:
                 return f"wanted {wanted!r}; came {told[number - 1 :]}"
