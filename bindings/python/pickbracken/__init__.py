@@ -8,10 +8,10 @@
             ...     # this thread holds the node of this path
 
 A tree has a weight for each node, which is what it costs others to find the node locked. `Locks` has a lock for each
-node, and takes and releases them as the settled plan of the accesses says; `AsyncLocks` does so for asyncio. `plan`
-gives the settled plan of a list of accesses: it obeys the tree protocol, and no legal plan costs less. Its flow proves
-that, and `check` sees it, whoever made plan and flow. Planner and checker are grove's, which are proved; this package
-hands documents to its shared library, and reads the answers. `pickbracken.client` has the requests to `grove serve`.
+node, and takes and releases them as the settled plan of the accesses says; `AsyncLocks` does so for asyncio.
+`Tree.plan` gives the settled plan of a list of accesses: it obeys the tree protocol, and no legal plan costs less. Its
+flow proves that, and `Tree.check` sees it, whoever made plan and flow. Planner and checker are grove's, which are
+proved; this package hands numbers to its shared library, and reads the answers. `pickbracken.client` has the requests to `grove serve`.
 `pickbracken.document` has the calls over the bytes of a document. A `Store` runs lists by such plans in this process.
 
 A thread that makes a call has to have 1 MiB of stack left: `threading.stack_size` may not make it smaller. None may be
@@ -20,9 +20,9 @@ made in the forked child of a process with threads.
 
 from .accesses import Access, Kind, Reply
 from .async_locks import AsyncLocks, AsyncTransaction
-from .faults import BadPath, Closed, Error, Nested, NoMemory, OtherVersion, Refused, TimedOut, Unfinished
+from .faults import BadPath, Closed, Error, Nested, NoMemory, NoNode, OtherVersion, Refused, TimedOut, Unfinished
 from .locks import Locks, Transaction
-from .planning import Drawing, Judgement, Plan, check, draw, judge, plan, reweigh
+from .planning import Drawing, Judgement, Plan
 from .plans import Plans
 from .requests import Round
 from .steps import FlowRow, Step, StepKind
@@ -44,6 +44,7 @@ __all__ = [
     "Locks",
     "Nested",
     "NoMemory",
+    "NoNode",
     "OtherVersion",
     "Plan",
     "Plans",
@@ -58,9 +59,4 @@ __all__ = [
     "Tree",
     "Unfinished",
     "__version__",
-    "check",
-    "draw",
-    "judge",
-    "plan",
-    "reweigh",
 ]

@@ -69,7 +69,11 @@ class OtherVersion(Error, OSError):
 
 
 class BadPath(Error, ValueError):
-    """This is no path from the root down, as `/` or `/a/b`, or no node has it."""
+    """This is no path from the root down, as `/` or `/a/b`."""
+
+
+class NoNode(BadPath):
+    """No node has this path. (So what is no path at all has none.)"""
 
 
 class TimedOut(Error, TimeoutError):

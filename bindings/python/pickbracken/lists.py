@@ -34,8 +34,8 @@ Made = TypeVar("Made")
 
 
 class Cut(NamedTuple):
-    """A list over the part of the tree that its plan depends on: the paths of the accesses, the numbers of the part's
-    nodes, and the shape."""
+    """A list over the part of the tree that has the ways down to its nodes: the paths of the accesses, the numbers of
+    the part's nodes, and the shape."""
 
     paths: List[str]
     nodes: List[int]

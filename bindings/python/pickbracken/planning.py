@@ -1,16 +1,15 @@
-"""Plans of lists: made, checked, judged and drawn."""
+"""What is said of lists: their plans, judgements and drawings; and how documents have them."""
 
 from __future__ import annotations
 
 import json
-from dataclasses import dataclass, replace
-from typing import Any, Dict, Iterable, List, Mapping, Optional, Sequence, Tuple, Union
+from dataclasses import dataclass
+from typing import Any, Dict, Iterable, Optional, Sequence, Tuple, Union
 
 from . import document
-from .accesses import Access, Reply, reply_of
+from .accesses import Access, Reply
 from .library import Settled
 from .steps import KINDS, NUMBERS, FlowRow, Rows, Step, Steps
-from .tree import Tree
 
 
 @dataclass(frozen=True)
@@ -67,50 +66,15 @@ class Drawing:
         return self.text
 
 
-def plan(tree: Tree, accesses: Iterable[Access]) -> Plan:
-    """The settled plan: no legal plan of the list costs less, and of all that cost as little it is the latest."""
-    kept = tree.kept
-    return Plan.of(kept.plan(tuple(accesses)), kept.names.paths)
-
-
-def check(tree: Tree, accesses: Iterable[Access], plan: Plan) -> int:
-    """What a plan costs that its flow proves to be least. Else it is refused, whoever made the two; the cost that the
-    plan has isn't looked at."""
-    return tree.kept.check(tuple(accesses), plan.steps, plan.flow)
-
-
-def judge(tree: Tree, accesses: Iterable[Access], steps: Sequence[Step]) -> Judgement:
-    """What steps cost that are a legal plan of the list, and what the list replies and leaves."""
-    kept, given = tree.kept, tuple(accesses)
-    cost = kept.judge(given, steps)
-    records = [node.record for node in tree.nodes]
-    replies: List[Union[int, Reply]] = []
-    for access in given:
-        node = kept.names.number_of[access.path]
-        reply, records[node] = access.done_on(records[node])
-        replies.append(reply)
-    return Judgement(cost, tuple(replies), tuple(records))
-
-
-def reweigh(tree: Tree, waits: Mapping[str, int]) -> Tree:
-    """The tree with new weights, made of the old ones and of how often each node was waited for: not at all if its path
-    isn't named (docs/PROTOCOL.md has the rule)."""
-    parents, weights = [node.parent for node in tree.nodes], [node.weight for node in tree.nodes]
-    kept, weighed = tree.kept.reweighed(parents, weights, waits)
-    made = Tree(tuple([replace(node, weight=weight) for node, weight in zip(tree.nodes, weighed)]))
-    made.keep(kept)
-    return made
-
-
-def draw(tree: Tree, accesses: Iterable[Access], steps: Optional[Sequence[Step]] = None) -> Drawing:
-    """The settled plan, and above it the steps, if there are any and they are a legal plan of the list."""
-    whole = written(tree, accesses, steps)
+def drawn(rows: Sequence[Dict[str, object]], accesses: Iterable[Access], steps: Optional[Sequence[Step]]) -> Drawing:
+    """The settled plan over a tree of these rows, and above it the steps, if there are any."""
+    whole = written(rows, accesses, steps)
     return Drawing(document.draw_svg(whole), document.draw_text(whole))
 
 
-def written(tree: Tree, accesses: Iterable[Access], steps: Optional[Sequence[Step]]) -> bytes:
+def written(rows: Sequence[Dict[str, object]], accesses: Iterable[Access], steps: Optional[Sequence[Step]]) -> bytes:
     """The document of a tree and a list, with a plan if there is one."""
-    parts = {"version": 2, "nodes": tree.rows(), "list": [access.form() for access in accesses], **plan_parts(steps)}
+    parts = {"version": 2, "nodes": rows, "list": [access.form() for access in accesses], **plan_parts(steps)}
     return json.dumps(parts, separators=(",", ":")).encode()
 
 

@@ -1,8 +1,8 @@
 """Plans of lists over trees of any size.
 
-A plan depends on the nodes from the lowest common ancestor of the accessed ones down to these, on their weights and on
-the lengths, but on no name. So a list is cut to that part of its tree, its shape, and a plan is kept in numbers for
-each shape.
+A list is cut to a part of its tree: the nodes on the ways from the root down to the accessed ones. Plans over such a
+part are proved to be those over the whole tree. They depend on its nodes, on their weights and on the lengths, but on
+no name. So a plan is kept in numbers for each shape of these.
 """
 
 from __future__ import annotations
@@ -11,7 +11,7 @@ from array import array
 from itertools import chain
 from typing import Callable, Dict, Generic, List, Mapping, NamedTuple, Sequence, Tuple, TypeVar
 
-from .faults import BadPath, Refused
+from .faults import NoNode, Refused
 from .library import STEP, Settled, plan_part
 from .steps import ACCESS, LOCK, NUMBERS, UNLOCK
 from .tree import names_of
@@ -20,12 +20,13 @@ __all__ = ["ACCESS", "LOCK", "MOST_DEPTH", "NUMBERS", "UNLOCK", "Nodes", "Number
 
 # So many shapes are kept, and of their plans so many steps; then all are forgotten.
 MOST_SHAPES, MOST_STEPS = 1_024, 1_048_576
-# A node that is accessed is at most so far below the top of its part.
+# A node that is accessed is at most so far below the root.
 MOST_DEPTH = 32
+ROOT = 0
 
 
 class Shape(NamedTuple):
-    """What a plan depends on: of nodes in preorder, the first of which is the top, the places of their parents among
+    """What a plan depends on: of nodes in preorder, the first of which is the root, the places of their parents among
     them and their weights; and of each access the place of its node, and its length."""
 
     parents: Tuple[int, ...]
@@ -95,41 +96,28 @@ class Nodes:
     def number(self, path: str) -> int:
         found = self.number_of.get(path)
         if found is None:
-            raise BadPath(f"no node has the path {path!r}")
+            raise NoNode(f"no node has the path {path!r}")
         return found
 
     def cut(self, numbers: Sequence[int]) -> List[int]:
-        """The nodes from the lowest common ancestor of these down to them, in preorder."""
-        parents, top = self.parents, self.meeting(min(numbers), max(numbers))
-        cut = {top}
+        """The nodes on the ways from the root down to these, in preorder."""
+        parents, cut = self.parents, {ROOT}
         for number in numbers:
             while number not in cut:
                 cut.add(number)
                 number = parents[number]
         return sorted(cut)
 
-    def meeting(self, first: int, last: int) -> int:
-        """The lowest common ancestor of two nodes. (In preorder that of a set is that of its first and its last.)"""
-        parents, depths = self.parents, self.depths
-        while first != last:
-            if depths[first] > depths[last]:
-                first = parents[first]
-            else:
-                last = parents[last]
-        return first
-
     def shape(
         self, cut: Sequence[int], weights: Sequence[int], numbers: Sequence[int], lengths: Sequence[int]
     ) -> Shape:
         """The shape of accesses of the nodes of these numbers, over the part of the tree that is cut."""
         depths, parents, place_of = self.depths, self.parents, {number: place for place, number in enumerate(cut)}
-        lowest = MOST_DEPTH + depths[cut[0]]
         for place, number in enumerate(cut):
-            if depths[number] > lowest:
+            if depths[number] > MOST_DEPTH:
                 raise Refused(f"row {place} too-deep")
         return Shape(
-            # (The top's parent isn't among them.)
-            tuple([place_of.get(parents[number], 0) for number in cut]),
+            tuple([place_of[parents[number]] for number in cut]),
             tuple([weights[number] for number in cut]),
             tuple([place_of[number] for number in numbers]),
             tuple(lengths),

@@ -9,7 +9,7 @@ from enum import Enum
 from operator import eq
 from typing import Callable, ClassVar, Dict, Iterator, Mapping, Sequence, Tuple, TypeVar, Union, overload
 
-from .faults import BadPath, Refused
+from .faults import NoNode, Refused
 from .library import NODE, ROW, STEP
 
 
@@ -155,7 +155,7 @@ class Names:
     def known(self, path: str) -> int:
         """The number of the node of a path."""
         if path not in self.number_of:
-            raise BadPath(f"no node has the path {path!r}")
+            raise NoNode(f"no node has the path {path!r}")
         return self.number_of[path]
 
     def node(self, path: object, place: str) -> int:

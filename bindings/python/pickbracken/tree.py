@@ -3,12 +3,15 @@
 from __future__ import annotations
 
 import json
-from dataclasses import dataclass, field
+from dataclasses import dataclass, field, replace
 from functools import cached_property
-from typing import Any, Dict, Iterator, List, Mapping, Optional, Tuple
+from typing import Any, Dict, Iterable, Iterator, List, Mapping, Optional, Sequence, Tuple, Union
 
-from .faults import BadPath
+from .accesses import Access, Reply
+from .faults import BadPath, NoNode
 from .kept import KeptTree, opened
+from .planning import Drawing, Judgement, Plan, drawn
+from .steps import Step
 
 
 @dataclass(frozen=True)
@@ -55,6 +58,41 @@ class Tree:
             branch_at(top, path).record = record
         return Tree(tuple(laid_out(top)))
 
+    def plan(self, accesses: Iterable[Access]) -> Plan:
+        """The settled plan: no legal plan of the list costs less, and of all that cost as little it is the latest."""
+        kept = self.kept
+        return Plan.of(kept.plan(tuple(accesses)), kept.names.paths)
+
+    def check(self, accesses: Iterable[Access], plan: Plan) -> int:
+        """What a plan costs that its flow proves to be least. Else it is refused, whoever made the two; the cost that
+        the plan has isn't looked at."""
+        return self.kept.check(tuple(accesses), plan.steps, plan.flow)
+
+    def judge(self, accesses: Iterable[Access], steps: Sequence[Step]) -> Judgement:
+        """What steps cost that are a legal plan of the list, and what the list replies and leaves."""
+        kept, given = self.kept, tuple(accesses)
+        cost = kept.judge(given, steps)
+        records = [node.record for node in self.nodes]
+        replies: List[Union[int, Reply]] = []
+        for access in given:
+            node = kept.names.number_of[access.path]
+            reply, records[node] = access.done_on(records[node])
+            replies.append(reply)
+        return Judgement(cost, tuple(replies), tuple(records))
+
+    def reweigh(self, waits: Mapping[str, int]) -> Tree:
+        """The tree with new weights, made of the old ones and of how often each node was waited for: not at all if its
+        path isn't named (docs/PROTOCOL.md has the rule)."""
+        parents, weights = [node.parent for node in self.nodes], [node.weight for node in self.nodes]
+        kept, weighed = self.kept.reweighed(parents, weights, waits)
+        made = Tree(tuple([replace(node, weight=weight) for node, weight in zip(self.nodes, weighed)]))
+        made.keep(kept)
+        return made
+
+    def draw(self, accesses: Iterable[Access], steps: Optional[Sequence[Step]] = None) -> Drawing:
+        """The settled plan, and above it the steps, if there are any and they are a legal plan of the list."""
+        return drawn(self.rows(), accesses, steps)
+
     def __reduce__(self) -> Tuple[Any, ...]:
         """As its nodes; what the library keeps belongs to this tree alone."""
         return Tree, (self.nodes,)
@@ -100,7 +138,7 @@ def branch_at(top: Branch, path: str) -> Branch:
     branch = top
     for name in names_of(path):
         if name not in branch.children:
-            raise BadPath(f"no node has the path {path!r}")
+            raise NoNode(f"no node has the path {path!r}")
         branch = branch.children[name]
     return branch
 

@@ -8,7 +8,7 @@ import sys
 import unittest
 from typing import Any, Dict, List, Tuple
 
-from pickbracken import AsyncLocks, BadPath, Nested, TimedOut, Unfinished
+from pickbracken import AsyncLocks, Nested, NoNode, Refused, TimedOut, Unfinished
 
 from histories import JOBS, History
 from serial_order import LEAVES, TRANSACTIONS, WEIGHTS, Records, Run, drawn_paths
@@ -355,8 +355,11 @@ class Transactions(unittest.IsolatedAsyncioTestCase):
             with self.assertRaises(Unfinished):
                 async for _ in again:
                     self.fail("it goes on")
-        with self.assertRaises(BadPath):
+        with self.assertRaises(NoNode):
             locks.transaction(["/g9"])
+        with self.assertRaises(Refused) as refused:
+            locks.transaction([(A, 0)])
+        self.assertEqual(refused.exception.text, "bad-length list 0")
 
     async def test_no_task_has_two_at_once(self) -> None:
         locks = AsyncLocks(WEIGHTS)

@@ -16,7 +16,7 @@ from typing import Dict, List, Tuple
 from unittest import mock
 
 import pickbracken
-from pickbracken import Access, OtherVersion, Refused, Tree, check, document, plan
+from pickbracken import Access, OtherVersion, Refused, Tree, document
 from pickbracken.library import Room, loaded
 from pickbracken.tree import Node
 
@@ -28,25 +28,25 @@ class KeptTrees(unittest.TestCase):
         accesses = [Access.get("/a"), Access.add("/b", 1).lasting(3)]
         parts = {**json.loads(STOCK.document()), "list": [access.form() for access in accesses]}
         lines = document.plan(json.dumps(parts).encode()).splitlines()
-        planned = plan(STOCK, accesses)
+        planned = STOCK.plan(accesses)
         self.assertEqual(f"cost {planned.cost}", lines[0])
         self.assertEqual([[step.kind, step.of] for step in planned.steps], json.loads(lines[1].split(" ", 1)[1]))
-        self.assertEqual(check(STOCK, accesses, planned), planned.cost)
+        self.assertEqual(STOCK.check(accesses, planned), planned.cost)
 
     def test_copies_are_trees_of_their_own(self) -> None:
         accesses = [Access.get("/a")]
-        wanted = plan(STOCK, accesses)
+        wanted = STOCK.plan(accesses)
         for other in (pickle.loads(pickle.dumps(STOCK)), copy.deepcopy(STOCK), copy.copy(STOCK)):
             self.assertEqual((other, hash(other)), (STOCK, hash(STOCK)))
             self.assertIsNot(other.kept, STOCK.kept)
-            self.assertEqual(plan(other, accesses), wanted)
+            self.assertEqual(other.plan(accesses), wanted)
 
     def test_threads_plan_over_one_tree(self) -> None:
         accesses = [Access.get("/a"), Access.get("/b")]
-        wanted, came = plan(STOCK, accesses), []
+        wanted, came = STOCK.plan(accesses), []
 
         def plan_often() -> None:
-            plans = [plan(STOCK, accesses) for _ in range(100)]
+            plans = [STOCK.plan(accesses) for _ in range(100)]
             came.append(plans == [wanted] * 100)
 
         threads: List[threading.Thread] = [threading.Thread(target=plan_often) for _ in range(4)]
@@ -60,14 +60,14 @@ class KeptTrees(unittest.TestCase):
         heavy = Tree.from_paths({"/": 1001})
         for _ in range(2):
             with self.assertRaises(Refused) as caught:
-                plan(heavy, [])
+                heavy.plan([])
             self.assertEqual((caught.exception.name, caught.exception.place), ("bad-weight", "row 0"))
 
 
 # Plans over a tree, and opens a store of it.
 TRIES = """
-from pickbracken import Store, Tree, plan
-for call in (lambda tree: plan(tree, []), Store):
+from pickbracken import Store, Tree
+for call in (lambda tree: tree.plan([]), Store):
     try:
         call(Tree.from_paths({"/": 5}))
     except OSError as why:
@@ -76,7 +76,7 @@ for call in (lambda tree: plan(tree, []), Store):
 
 
 # Plans over a tree, and says what it costs.
-PLANS = "from pickbracken import Access, Tree, plan; print(plan(Tree.from_paths({'/a': 5}), [Access.get('/a')]).cost)"
+PLANS = "from pickbracken import Access, Tree; print(Tree.from_paths({'/a': 5}).plan([Access.get('/a')]).cost)"
 PACKAGE = Path(pickbracken.__file__).parent
 
 
@@ -160,8 +160,8 @@ class Memory(unittest.TestCase):
 
         def each() -> None:
             document.check(planned)
-            check(STOCK, accesses, plan(STOCK, accesses))
-            plan(Tree(STOCK.nodes), accesses)
+            STOCK.check(accesses, STOCK.plan(accesses))
+            Tree(STOCK.nodes).plan(accesses)
             with self.assertRaises(Refused):
                 document.judge(b"{")
 

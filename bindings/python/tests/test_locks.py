@@ -12,7 +12,7 @@ import unittest
 from contextlib import contextmanager
 from typing import Any, Callable, Dict, Iterator, List, Tuple
 
-from pickbracken import Access, BadPath, Locks, Nested, Refused, StepKind, TimedOut, Tree, Unfinished, plan
+from pickbracken import Access, Locks, Nested, NoNode, Refused, StepKind, TimedOut, Tree, Unfinished
 from pickbracken import lists, shapes
 from pickbracken.locks import AnyLock
 from pickbracken.weights import new_weight
@@ -189,7 +189,7 @@ class Histories(unittest.TestCase):
         for _ in range(200):
             job, paths = history.job(), drawn_paths(drawn)
             locks.run(paths, lambda number, path: history.add(path, 1, history.numbers[path]))
-            settled = plan(tree, [Access.get(path) for path in paths]).steps
+            settled = tree.plan([Access.get(path) for path in paths]).steps
             self.assertEqual(job.steps, [(step.kind.value, step.of) for step in settled])
 
     def test_locks_that_do_not_lock_are_refused(self) -> None:
@@ -334,7 +334,7 @@ class Transactions(unittest.TestCase):
 
         Locks(WEIGHTS, Watched).run(wanted, lambda number, path: taken.append(("access", path)))
         accesses = [Access.get(path).lasting(length) for path, length in wanted]
-        settled = plan(Tree.from_paths(WEIGHTS), accesses).steps
+        settled = Tree.from_paths(WEIGHTS).plan(accesses).steps
         paths = [step.of if isinstance(step.of, str) else accesses[step.of].path for step in settled]
         self.assertEqual(taken, [(step.kind.value, path) for step, path in zip(settled, paths)])
 
@@ -483,7 +483,7 @@ class Transactions(unittest.TestCase):
             self.assertEqual((caught.exception.name, caught.exception.place), ("bad-length", "list 1"))
         locks.run([(A, 1), (B, 1000)], lambda number, path: None)
         for path in ("/g9", "", "g0", A + "/"):
-            with self.assertRaises(BadPath):
+            with self.assertRaises(NoNode):
                 locks.transaction([A, path])
         with self.assertRaises(Refused) as caught:
             locks.transaction([A] * 65)
@@ -552,9 +552,9 @@ class Plans(unittest.TestCase):
         self.assertEqual(locks.run(wanted, lambda number, path: path), wanted)
         deep = "/a" * 5_000
         locks = Locks({deep: 1})
-        self.assertEqual(locks.run([deep[: -2 * 32], deep], lambda number, path: number), [0, 1])
+        self.assertEqual(locks.run(["/a", deep[: 2 * 32]], lambda number, path: number), [0, 1])
         with self.assertRaises(Refused) as caught:
-            locks.transaction([deep[: -2 * 33], deep])
+            locks.transaction([deep[: 2 * 32], deep[: 2 * 33]])
         self.assertEqual(caught.exception.name, "too-deep")
 
     def test_lists_are_cut_to_what_their_plans_lock(self) -> None:
@@ -568,7 +568,7 @@ class Plans(unittest.TestCase):
             weights = {path: drawn.randrange(1, 30) for path in paths}
             wanted = [(drawn.choice(paths), drawn.choice((1, 1, 2, 5))) for _ in range(drawn.randrange(1, 7))]
             locks, accesses = Locks(weights), [Access.get(path).lasting(length) for path, length in wanted]
-            settled = plan(Tree.from_paths(locks.weights()), accesses).steps
+            settled = Tree.from_paths(locks.weights()).plan(accesses).steps
             self.assertEqual(self.steps_of(locks, wanted), [(step.kind, step.of) for step in settled])
 
     def steps_of(self, locks: Locks, wanted: List[Tuple[str, int]]) -> List[Tuple[StepKind, object]]:
@@ -591,9 +591,9 @@ class Plans(unittest.TestCase):
             locks.run(pair, lambda number, path: None)
         self.assertEqual(asked, [((0, 0, 1, 0, 3), (64, 8, 1, 8, 1), (2, 4), (1, 1)), asked[-1]][: len(asked)])
         self.assertEqual([shape.places for shape in asked], [(2, 4), (4, 2)])
-        # Of one node nothing above it matters.
+        # The part of one node has its way down from the root.
         locks.run([(A, 7)], lambda number, path: None)
-        self.assertEqual(asked[-1], ((0,), (1,), (0,), (7,)))
+        self.assertEqual(asked[-1], ((0, 0, 1), (64, 8, 1), (2,), (7,)))
 
     def test_what_is_kept_is_bounded(self) -> None:
         locks = Locks({f"/{number}": 1 for number in range(lists.MOST_LISTS + 1)})

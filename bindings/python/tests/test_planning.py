@@ -9,8 +9,7 @@ from typing import Any, Callable, Sequence
 from unittest import mock
 
 import pickbracken
-from pickbracken import Access, BadPath, FlowRow, Kind, Plan, Refused, Reply, Step, StepKind, Tree
-from pickbracken import check, draw, judge, plan, reweigh
+from pickbracken import Access, BadPath, FlowRow, Kind, NoNode, Plan, Refused, Reply, Step, StepKind, Store, Tree
 from pickbracken.weights import new_weight
 
 STOCK = Tree.from_paths({"/": 5, "/a": 1, "/b": 1}, {"/a": 10, "/b": 20})
@@ -19,10 +18,10 @@ STOCK = Tree.from_paths({"/": 5, "/a": 1, "/b": 1}, {"/a": 10, "/b": 20})
 class Planning(unittest.TestCase):
     def test_plans_are_least_and_legal(self) -> None:
         accesses = [Access.get("/a"), Access.take("/b", 3)]
-        planned = plan(STOCK, accesses)
+        planned = STOCK.plan(accesses)
         self.assertEqual((planned.cost, planned.steps[0], len(planned.flow)), (3, Step.lock("/"), 3))
-        self.assertEqual(check(STOCK, accesses, planned), 3)
-        judged = judge(STOCK, accesses, planned.steps)
+        self.assertEqual(STOCK.check(accesses, planned), 3)
+        judged = STOCK.judge(accesses, planned.steps)
         self.assertEqual((judged.cost, judged.replies, judged.records), (3, (10, 17), (0, 10, 17)))
 
     def test_replies_are_told_apart(self) -> None:
@@ -32,15 +31,15 @@ class Planning(unittest.TestCase):
             Access.take("/b", 21),
             Access.add("/b", -(2**63)).lasting(1000),
         ]
-        judged = judge(STOCK, accesses, plan(STOCK, accesses).steps)
+        judged = STOCK.judge(accesses, STOCK.plan(accesses).steps)
         self.assertEqual(judged.replies, (Reply.STORED, Reply.RANGE, Reply.SHORT, 20 - 2**63))
 
     def test_a_changed_flow_proves_nothing(self) -> None:
         accesses = [Access.get("/a"), Access.get("/b")]
-        planned = plan(STOCK, accesses)
+        planned = STOCK.plan(accesses)
         top, first, *others = planned.flow
         altered = replace(planned, flow=(top, replace(first, last=first.last + 1), *others))
-        self.assertTrue(self.name_of(lambda: check(STOCK, accesses, altered)).endswith("-balance"))
+        self.assertTrue(self.name_of(lambda: STOCK.check(accesses, altered)).endswith("-balance"))
 
     def test_the_first_fault_is_told_with_its_place(self) -> None:
         accesses = [Access.get("/a"), Access.get("/b")]
@@ -58,15 +57,15 @@ class Planning(unittest.TestCase):
             ([lock("/a"), access(2**32)], "shape plan 1"),
         ):
             with self.assertRaises(Refused) as caught:
-                judge(STOCK, accesses, steps)
+                STOCK.judge(accesses, steps)
             self.assertEqual(caught.exception.text, text)
             with self.assertRaises(Refused) as caught:
-                check(STOCK, accesses, Plan(0, steps, ()))
+                STOCK.check(accesses, Plan(0, steps, ()))
             self.assertEqual(caught.exception.text, text)
 
     def test_the_first_fault_of_a_flow_is_told_with_its_place(self) -> None:
         accesses = [Access.get("/a"), Access.get("/b")]
-        planned = plan(STOCK, accesses)
+        planned = STOCK.plan(accesses)
         top, *others = planned.flow
         for flow, text in (
             ((), "rows 0"),
@@ -78,46 +77,46 @@ class Planning(unittest.TestCase):
             ((top, replace(others[0], node="/c")), "no-path flow 1"),
         ):
             with self.assertRaises(Refused) as caught:
-                check(STOCK, accesses, replace(planned, flow=flow))
+                STOCK.check(accesses, replace(planned, flow=flow))
             self.assertEqual(caught.exception.text, text)
 
     def test_a_plan_that_costs_more_is_not_proved(self) -> None:
         accesses = [Access.get("/a"), Access.get("/b")]
-        planned = plan(STOCK, accesses)
+        planned = STOCK.plan(accesses)
         nodes = ("/", "/a", "/b")
         longest = (*map(Step.lock, nodes), Step.access(0), Step.access(1), *map(Step.unlock, nodes))
         with self.assertRaises(Refused) as caught:
-            check(STOCK, accesses, replace(planned, steps=longest))
+            STOCK.check(accesses, replace(planned, steps=longest))
         self.assertEqual((caught.exception.name, caught.exception.place), ("value", "14"))
-        self.assertEqual(judge(STOCK, accesses, longest).cost, 14)
+        self.assertEqual(STOCK.judge(accesses, longest).cost, 14)
 
     def test_weights_are_made_anew(self) -> None:
         tree = Tree.from_paths({"/": 64, "/a": 9, "/b": 1000, "/c": 1}, {"/a": 7})
         waits = {"/": 3, "/b": 10**9}
-        made = reweigh(tree, waits)
+        made = tree.reweigh(waits)
         self.assertEqual([node.weight for node in made.nodes], [35, 5, 1000, 1])
         wanted = [new_weight(node.weight, waits.get(path, 0)) for node, path in zip(tree.nodes, tree.paths())]
         self.assertEqual([node.weight for node in made.nodes], wanted)
         self.assertEqual([node.record for node in made.nodes], [0, 7, 0, 0])
         accesses = [Access.get("/a"), Access.get("/b").lasting(3)]
-        self.assertEqual(plan(made, accesses), plan(Tree(made.nodes), accesses))
-        self.assertEqual(plan(tree, accesses), plan(Tree(tree.nodes), accesses))
-        with self.assertRaises(BadPath):
-            reweigh(tree, {"/d": 1})
+        self.assertEqual(made.plan(accesses), Tree(made.nodes).plan(accesses))
+        self.assertEqual(tree.plan(accesses), Tree(tree.nodes).plan(accesses))
+        with self.assertRaises(NoNode):
+            tree.reweigh({"/d": 1})
         strange: Any = (-1, 1.5, "1")
         for count in strange:
             with self.assertRaises(ValueError):
-                reweigh(tree, {"/a": count})
+                tree.reweigh({"/a": count})
 
     def test_bad_values_are_refused_by_name(self) -> None:
-        self.assertEqual(self.name_of(lambda: plan(STOCK, [Access.get("/c")])), "no-path")
-        self.assertEqual(self.name_of(lambda: plan(STOCK, [Access.get("/a").lasting(0)])), "bad-length")
-        self.assertEqual(self.name_of(lambda: plan(STOCK, [Access.get("/a")] * 65)), "limit")
-        self.assertEqual(self.name_of(lambda: plan(STOCK, [Access.set("/a", 2**64)])), "shape")
+        self.assertEqual(self.name_of(lambda: STOCK.plan([Access.get("/c")])), "no-path")
+        self.assertEqual(self.name_of(lambda: STOCK.plan([Access.get("/a").lasting(0)])), "bad-length")
+        self.assertEqual(self.name_of(lambda: STOCK.plan([Access.get("/a")] * 65)), "limit")
+        self.assertEqual(self.name_of(lambda: STOCK.plan([Access.set("/a", 2**64)])), "shape")
         steps = [Step.lock("/a"), Step.access(0)]
-        self.assertEqual(self.name_of(lambda: judge(STOCK, [Access.get("/a")], steps)), "still-held")
-        self.assertEqual(self.name_of(lambda: plan(Tree.from_paths({"/": 1001}), [])), "bad-weight")
-        self.assertEqual(self.name_of(lambda: plan(Tree.from_paths({'/a"b\n': 1}), [])), "bad-name")
+        self.assertEqual(self.name_of(lambda: STOCK.judge([Access.get("/a")], steps)), "still-held")
+        self.assertEqual(self.name_of(lambda: Tree.from_paths({"/": 1001}).plan([])), "bad-weight")
+        self.assertEqual(self.name_of(lambda: Tree.from_paths({'/a"b\n': 1}).plan([])), "bad-name")
 
     def test_only_a_get_is_without_a_number(self) -> None:
         nothing: Any = None
@@ -139,6 +138,20 @@ class Planning(unittest.TestCase):
             with self.assertRaises(Refused) as caught:
                 Access.set("/a", number)
             self.assertEqual(caught.exception.text, "shape")
+
+    def test_a_record_has_64_bits(self) -> None:
+        accesses = [Access.get("/a"), Access.add("/a", 1)]
+        ends = ((2**63 - 2, 2**63 - 1), (2**63 - 1, Reply.RANGE), (-(2**63), 1 - 2**63), (1 - 2**63, 2 - 2**63))
+        for record, more in ends:
+            tree = Tree.from_paths({"/a": 1}, {"/a": record})
+            judged = tree.judge(accesses, tree.plan(accesses).steps)
+            self.assertEqual(judged.replies, (record, more))
+            with Store(tree) as store:
+                self.assertEqual(store.batch(accesses).replies, (judged.replies,))
+        for record in (2**63, -(2**63) - 1):
+            tree = Tree.from_paths({"/a": 1}, {"/a": record})
+            self.assertEqual(self.name_of(lambda: tree.plan([])), "shape")
+            self.assertEqual(self.name_of(lambda: Store(tree)), "shape")
 
     def test_an_access_takes_1_to_1000_slots(self) -> None:
         access = Access.get("/a")
@@ -165,24 +178,25 @@ class Planning(unittest.TestCase):
         for path in ["", "a", "/a/", "//a"]:
             with self.assertRaises(BadPath):
                 Tree.from_paths({path: 1})
-        for path, why in (("/c", "no node has the path '/c'"), ("a", "'a' is no path from the root down")):
+        said = (("/c", NoNode, "no node has the path '/c'"), ("a", BadPath, "'a' is no path from the root down"))
+        for path, kind, why in said:
             with self.assertRaises(BadPath) as caught:
                 Tree.from_paths({"/a": 1}, {path: 1})
-            self.assertEqual(str(caught.exception), why)
+            self.assertEqual((type(caught.exception), str(caught.exception)), (kind, why))
 
     def test_a_path_may_be_of_any_length(self) -> None:
         long = "/a" * 100_000
         self.assertEqual(len(Tree.from_paths({long: 1}, {long: 1}).nodes), 100_001)
-        self.assertEqual(self.name_of(lambda: plan(Tree.from_paths({long[:4000]: 1}), [])), "too-deep")
+        self.assertEqual(self.name_of(lambda: Tree.from_paths({long[:4000]: 1}).plan([])), "too-deep")
 
     def test_trees_stand_in_preorder(self) -> None:
         tree = Tree.from_paths({"/a/b/c": 3, "/d": 7, "/a/e": 4})
         self.assertEqual(tree.paths(), ["/", "/a", "/a/b", "/a/b/c", "/a/e", "/d"])
-        self.assertEqual(plan(tree, [Access.get("/d")]).cost, 7)
+        self.assertEqual(tree.plan([Access.get("/d")]).cost, 7)
 
     def test_drawings_have_both_forms(self) -> None:
         accesses = [Access.get("/a")]
-        drawing = draw(STOCK, accesses, plan(STOCK, accesses).steps)
+        drawing = STOCK.draw(accesses, STOCK.plan(accesses).steps)
         self.assertTrue(drawing._repr_svg_().startswith("<svg "))
         self.assertIn("the settled plan: cost 1", str(drawing))
 
@@ -200,15 +214,15 @@ class Lazily(unittest.TestCase):
     def test_nothing_is_made_that_is_not_read(self) -> None:
         last = Step.unlock("/b")
         with mock.patch("pickbracken.steps.Step", side_effect=Step) as steps:
-            planned = plan(STOCK, self.ACCESSES)
-            self.assertEqual((len(planned.steps), check(STOCK, self.ACCESSES, planned)), (8, planned.cost))
-            self.assertEqual(planned, plan(STOCK, self.ACCESSES))
+            planned = STOCK.plan(self.ACCESSES)
+            self.assertEqual((len(planned.steps), STOCK.check(self.ACCESSES, planned)), (8, planned.cost))
+            self.assertEqual(planned, STOCK.plan(self.ACCESSES))
             self.assertEqual(steps.call_count, 0)
             self.assertEqual(planned.steps[-1], last)
             self.assertEqual(steps.call_count, 1)
 
     def test_they_are_as_tuples_are(self) -> None:
-        planned = plan(STOCK, self.ACCESSES)
+        planned = STOCK.plan(self.ACCESSES)
         parts: Sequence[Sequence[Any]] = (planned.steps, planned.flow)
         for part in parts:
             whole = tuple(part)
@@ -225,14 +239,14 @@ class Lazily(unittest.TestCase):
         self.assertNotEqual(planned.steps, planned.flow)
 
     def test_plans_of_different_trees_are_compared_by_their_paths(self) -> None:
-        planned = plan(STOCK, [Access.get("/a")])
+        planned = STOCK.plan([Access.get("/a")])
         same, other = Tree.from_paths({"/": 5, "/a": 1}), Tree.from_paths({"/": 5, "/z": 1})
-        again = plan(same, [Access.get("/a")])
+        again = same.plan([Access.get("/a")])
         self.assertEqual((planned, hash(planned)), (again, hash(again)))
-        self.assertNotEqual(planned, plan(other, [Access.get("/z")]))
+        self.assertNotEqual(planned, other.plan([Access.get("/z")]))
 
     def test_a_plan_is_a_value(self) -> None:
-        planned = plan(STOCK, [Access.get("/a")])
+        planned = STOCK.plan([Access.get("/a")])
         row = FlowRow("/a", above=0, held=0, first=1, last=1, own=0)
         written = Plan(1, (Step.lock("/a"), Step.access(0), Step.unlock("/a")), (row,))
         self.assertEqual((planned, repr(planned), hash(planned)), (written, repr(written), hash(written)))

@@ -6,7 +6,7 @@ import unittest
 from typing import Any, List
 from unittest import mock
 
-from pickbracken import Access, BadPath, Plan, Plans, Refused, Step, Tree, check, lists, plan
+from pickbracken import Access, NoNode, Plan, Plans, Refused, Step, Tree, lists
 
 from serial_order import LEAVES, WEIGHTS
 
@@ -26,8 +26,8 @@ class Planning(unittest.TestCase):
             plans, accesses = Plans(weights), [Access.get(path).lasting(length) for path, length in wanted]
             tree = Tree.from_paths(plans.weights())
             planned = plans.plan(wanted)
-            self.assertEqual(planned, plan(tree, accesses))
-            self.assertEqual(check(tree, accesses, planned), planned.cost)
+            self.assertEqual(planned, tree.plan(accesses))
+            self.assertEqual(tree.check(accesses, planned), planned.cost)
 
     def test_a_known_list_has_the_same_plan(self) -> None:
         plans = Plans(WEIGHTS)
@@ -48,9 +48,9 @@ class Planning(unittest.TestCase):
         planned = plans.plan(wanted)
         self.assertEqual([row.node for row in planned.flow], ["/", "/user-199", wanted[1], "/user-7", wanted[0]])
         deep = "/a" * 5_000
-        self.assertEqual(len(Plans({deep: 1}).plan([deep[: -2 * 32], deep]).flow), 33)
+        self.assertEqual(len(Plans({deep: 1}).plan(["/a", deep[: 2 * 32]]).flow), 32)
         with self.assertRaises(Refused) as caught:
-            Plans({deep: 1}).plan([deep[: -2 * 33], deep])
+            Plans({deep: 1}).plan([deep[: 2 * 32], deep[: 2 * 33]])
         self.assertEqual((caught.exception.name, caught.exception.place), ("too-deep", "row 33"))
 
     def test_what_is_no_list_is_refused_by_name(self) -> None:
@@ -60,7 +60,7 @@ class Planning(unittest.TestCase):
             with self.assertRaises(Refused) as caught:
                 plans.plan([A, (B, length)])
             self.assertEqual(caught.exception.text, "bad-length list 1")
-        with self.assertRaises(BadPath):
+        with self.assertRaises(NoNode):
             plans.plan(["/g9"])
         with self.assertRaises(Refused) as caught:
             plans.plan([A] * 65)
@@ -76,8 +76,8 @@ class Planning(unittest.TestCase):
         self.assertEqual(plans.weights(), {"/": 1, "/a": 1, "/b": 1000})
         after = plans.plan([("/a", 9), "/b"])
         self.assertNotEqual(before.steps, after.steps)
-        self.assertEqual(after, plan(Tree.from_paths(plans.weights()), [Access.get("/a").lasting(9), Access.get("/b")]))
-        with self.assertRaises(BadPath):
+        self.assertEqual(after, Tree.from_paths(plans.weights()).plan([Access.get("/a").lasting(9), Access.get("/b")]))
+        with self.assertRaises(NoNode):
             plans.reweigh({"/c": 1})
         with self.assertRaises(ValueError):
             plans.reweigh({"/a": -1})

@@ -31,8 +31,7 @@ use std::sync::atomic::{AtomicU64, Ordering};
 /// # }
 /// ```
 ///
-/// The tree may have any size, and its names are free. A list's part of it, from the lowest common ancestor of the
-/// accessed nodes down to these, may be 32 deep.
+/// The tree may have any size, and its names are free. A node that is accessed is at most 32 below the root.
 ///
 /// However a transaction ends, all that it holds is let go. Nothing is undone: others have seen what was done at a
 /// node that was let go before. [`List::whole`] holds accessed nodes to the end, for who has to undo.
@@ -304,7 +303,7 @@ mod tests {
         for paths in [["/g", "/g/a"], ["/h", "/h/b"], ["/g", "/g/a"]] {
             run(&locks, &paths).unwrap();
         }
-        let pair = shape(&[(0, 3), (0, 1)], &[0, 1]);
+        let pair = shape(&[(0, 9), (0, 3), (1, 1)], &[1, 2]);
         assert_eq!(*asked.lock().unwrap(), [pair]);
         run(&locks, &["/h/b", "/g"]).unwrap();
         let fork = shape(&[(0, 9), (0, 3), (0, 3), (2, 1)], &[3, 1]);

@@ -57,19 +57,6 @@ impl Nodes {
     pub(crate) fn parent(&self, number: u32) -> u32 {
         self.parents[number as usize]
     }
-
-    /// The lowest common ancestor of two nodes. (In preorder that of a set is that of its first and its last.)
-    pub(crate) fn meeting(&self, mut first: u32, mut last: u32) -> u32 {
-        while first != last {
-            let lower = if self.depth(first) > self.depth(last) {
-                &mut first
-            } else {
-                &mut last
-            };
-            *lower = self.parent(*lower);
-        }
-        first
-    }
 }
 
 /// A hash of a text that grows: that of a path is a step on the way to those of all below it. So a path of a million
@@ -284,9 +271,6 @@ mod tests {
         for path in ["", "a", "//", "/b/", "/a/x", "/c", "/b/a/x/", "b", "/b//c"] {
             assert_eq!(nodes.find(path), None, "{path:?}");
         }
-        assert_eq!(nodes.meeting(2, 4), 1);
-        assert_eq!(nodes.meeting(2, 6), 0);
-        assert_eq!(nodes.meeting(3, 4), 3);
     }
 
     #[test]

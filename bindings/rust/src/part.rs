@@ -1,7 +1,8 @@
 //! Parts of trees of any size.
 //!
-//! The settled plan depends on the nodes from the lowest common ancestor of the accessed ones down to these, on their
-//! weights and on the lengths, but on no name. So a list is cut to that part of its tree.
+//! A list is cut to a part of its tree: the nodes on the ways from the root down to the accessed ones. Plans over such a
+//! part are proved to be those over the whole tree. They depend on its nodes, on their weights and on the lengths, but
+//! on no name.
 
 use crate::error::Error;
 use crate::fault::Fault;
@@ -11,35 +12,32 @@ use crate::numbers::PartNode;
 /// The library takes no tree with more nodes, and none that is deeper.
 pub(crate) const MOST_NODES: usize = 4_096;
 const MOST_DEPTH: u32 = 32;
+const ROOT: u32 = 0;
 
-/// The nodes from the lowest common ancestor of some down to these, in preorder; or the root, of none.
+/// The nodes on the ways from the root down to some, in preorder; or the root, of none.
 pub(crate) struct Part {
     /// Their numbers in the tree.
     pub(crate) numbers: Vec<u32>,
-    /// The place of each one's parent in the part; the first has none, and 0 stands for it.
+    /// The place of each one's parent in the part; the root has none, and 0 stands for it.
     pub(crate) parents: Vec<u32>,
 }
 
 impl Part {
     /// The part of nodes that are given in preorder, maybe often.
     fn of_sorted(nodes: &Nodes, ends: &[u32]) -> Part {
-        let top = match (ends.first(), ends.last()) {
-            (Some(&first), Some(&last)) => nodes.meeting(first, last),
-            _ => 0,
-        };
         let mut part = Part {
-            numbers: vec![top],
+            numbers: vec![ROOT],
             parents: vec![0],
         };
-        // The places of the nodes from the top down to the one that came last; and the nodes that are below these.
+        // The places of the nodes from the root down to the one that came last; and the nodes that are below these.
         let (mut way, mut below) = (vec![0], Vec::new());
         for &end in ends {
             let mut at = end;
-            while part.on_way(nodes, &way, at).is_none() {
+            while !part.is_on_way(nodes, &way, at) {
                 below.push(at);
                 at = nodes.parent(at);
             }
-            way.truncate(1 + (nodes.depth(at) - nodes.depth(top)) as usize);
+            way.truncate(1 + nodes.depth(at) as usize);
             while let Some(node) = below.pop() {
                 let above = way[way.len() - 1];
                 way.push(part.numbers.len() as u32);
@@ -57,17 +55,15 @@ impl Part {
         Ok(part)
     }
 
-    /// The place of a node, if it is on a way down from the top.
-    fn on_way(&self, nodes: &Nodes, way: &[u32], number: u32) -> Option<u32> {
-        let down = nodes.depth(number) - nodes.depth(self.numbers[0]);
-        let place = *way.get(down as usize)?;
-        (self.numbers[place as usize] == number).then_some(place)
+    /// Whether a node is on a way down from the root.
+    fn is_on_way(&self, nodes: &Nodes, way: &[u32], number: u32) -> bool {
+        let place = way.get(nodes.depth(number) as usize);
+        place.is_some_and(|&place| self.numbers[place as usize] == number)
     }
 
     fn check_limits(&self, nodes: &Nodes) -> Result<(), Error> {
-        let lowest = nodes.depth(self.numbers[0]) + MOST_DEPTH;
-        let deep = self.numbers.iter().position(|&it| nodes.depth(it) > lowest);
-        let fault = match deep {
+        let deep = |&number: &u32| nodes.depth(number) > MOST_DEPTH;
+        let fault = match self.numbers.iter().position(deep) {
             _ if self.numbers.len() > MOST_NODES => "tree too-many".to_owned(),
             Some(place) => format!("row {place} too-deep"),
             None => return Ok(()),
@@ -108,11 +104,12 @@ mod tests {
         let nodes = Nodes::new(["/a/b/c", "/a/d", "/a/e/f", "/a/e/g", "/h"]).unwrap();
         for (ends, numbers, parents) in [
             (vec![], vec![0], vec![0]),
-            (vec![5], vec![5], vec![0]),
-            (vec![6, 6], vec![6], vec![0]),
-            (vec![7, 3], vec![1, 2, 3, 5, 7], vec![0, 0, 1, 0, 3]),
-            (vec![6, 7, 5, 6], vec![5, 6, 7], vec![0, 0, 0]),
-            (vec![1, 4], vec![1, 4], vec![0, 0]),
+            (vec![0], vec![0], vec![0]),
+            (vec![5], vec![0, 1, 5], vec![0, 0, 1]),
+            (vec![6, 6], vec![0, 1, 5, 6], vec![0, 0, 1, 2]),
+            (vec![7, 3], vec![0, 1, 2, 3, 5, 7], vec![0, 0, 1, 2, 1, 4]),
+            (vec![6, 7, 5, 6], vec![0, 1, 5, 6, 7], vec![0, 0, 1, 2, 2]),
+            (vec![1, 4], vec![0, 1, 4], vec![0, 0, 1]),
             (vec![8, 4], vec![0, 1, 4, 8], vec![0, 0, 1, 0]),
         ] {
             let part = Part::of(&nodes, ends.clone()).unwrap();
@@ -131,8 +128,8 @@ mod tests {
     fn a_part_is_at_most_32_deep() {
         let deep = "/a".repeat(40);
         let nodes = Nodes::new([deep.as_str()]).unwrap();
-        assert!(Part::of(&nodes, vec![8, 40]).is_ok());
-        let refused = Part::of(&nodes, vec![7, 40]).err().unwrap();
+        assert!(Part::of(&nodes, vec![8, 32]).is_ok());
+        let refused = Part::of(&nodes, vec![8, 40]).err().unwrap();
         assert_eq!(refused.to_string(), "refused row 33 too-deep");
     }
 }

@@ -103,7 +103,7 @@ impl Tree {
     /// # Errors
     ///
     /// [`Error::Refused`]: `limit` of more than 64 accesses, `no-path` or `bad-length` of one of them, and `too-deep`
-    /// if one is more than 32 below the lowest common ancestor of all. [`Error::NoMemory`].
+    /// if one is more than 32 below the root. [`Error::NoMemory`].
     pub fn plan(&self, list: &[Access]) -> Result<Plan, Error> {
         let key = self.kept.key(list);
         if let Some(plan) = self.kept.plan(key, list, &self.nodes) {

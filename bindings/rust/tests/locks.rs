@@ -369,10 +369,10 @@ fn a_tree_may_have_any_size_and_names() {
 fn what_is_accessed_may_be_32_deep() {
     let deep = "/a".repeat(1_000);
     let locks = Locks::new([(&deep, 1)], |_| ()).unwrap();
-    let above = |depth: usize| &deep[..deep.len() - 2 * depth];
-    let list = locks.list([above(32), &deep]).unwrap();
+    let at = |depth: usize| &deep[..2 * depth];
+    let list = locks.list([at(31), at(32)]).unwrap();
     assert_eq!(locks.run(&list, nothing).map(|it| it.len()), Ok(2));
-    let list = locks.list([above(33), &deep]).unwrap();
+    let list = locks.list([at(32), at(33)]).unwrap();
     let Err(Error::Refused(fault)) = locks.run(&list, nothing) else {
         panic!("it is taken");
     };
@@ -380,7 +380,7 @@ fn what_is_accessed_may_be_32_deep() {
         (fault.kind(), fault.text()),
         (FaultKind::TooDeep, "row 33 too-deep")
     );
-    assert_eq!(held(&locks), [""; 0]);
+    assert!(!(1..=32).any(|depth| is_held(&locks, at(depth))));
 }
 
 /// The longest plan that there is: to the ends of 64 chains of the greatest depth, below one root.

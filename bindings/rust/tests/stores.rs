@@ -82,6 +82,8 @@ fn refusals_have_names_and_change_nothing() {
         (br#"{"plan":[["get","/c"]]}"#, "no-path"),
         (&long, "long-line"),
     ];
+    let instant = Access::get("/a").lasting(0);
+    assert_eq!(refused(store.batch([[instant]]).unwrap_err()), "bad-length");
     for (line, name) in lines {
         assert_eq!(refused(store.send(line).unwrap_err()), name);
     }

@@ -1,6 +1,6 @@
 //! Trees, lists and plans as values.
 
-use pickbracken::{Access, Error, FlowRow, Form, Plan, Reply, Step, Tree};
+use pickbracken::{Access, Error, FlowRow, Form, Plan, Reply, Requests, Step, Store, Tree};
 
 fn name_of(error: Error) -> String {
     match error {
@@ -49,6 +49,29 @@ fn replies_are_told_apart() {
             Reply::Number(i64::MIN + 20)
         ]
     );
+}
+
+#[test]
+fn a_record_has_64_bits() {
+    let list = [Access::get("/a"), Access::add("/a", 1)];
+    for (record, more) in [
+        (i64::MAX - 1, Reply::Number(i64::MAX)),
+        (i64::MAX, Reply::Range),
+        (i64::MIN, Reply::Number(i64::MIN + 1)),
+    ] {
+        let tree = stock().with_record("/a", record).unwrap();
+        let plan = tree.plan(&list).unwrap();
+        let judged = tree.judge(&list, plan.steps()).unwrap();
+        assert_eq!(judged.replies, [Reply::Number(record), more]);
+        let store = Store::open(&tree).unwrap();
+        assert_eq!(store.batch([&list]).unwrap().replies, [judged.replies]);
+    }
+    for record in ["9223372036854775808", "-9223372036854775809"] {
+        let root = format!(r#"{{"parent":null,"name":"","weight":1,"value":{record}}}"#);
+        let document = format!(r#"{{"version":2,"nodes":[{root}]}}"#);
+        let refused = Store::open_document(document.as_bytes()).unwrap_err();
+        assert_eq!(name_of(refused), "shape");
+    }
 }
 
 #[test]
@@ -105,11 +128,11 @@ fn a_path_may_be_of_any_length() {
     let long = "/a".repeat(1_000_000);
     let tree = Tree::from_paths([(long.as_str(), 1)]).unwrap();
     assert_eq!(tree.len(), 1_000_001);
-    let list = [Access::get("/a"), Access::get(&long[..68])];
-    assert_eq!(name_of(tree.plan(&list).unwrap_err()), "too-deep");
     let list = [Access::get("/a"), Access::get(&long[..66])];
+    assert_eq!(name_of(tree.plan(&list).unwrap_err()), "too-deep");
+    let list = [Access::get("/a"), Access::get(&long[..64])];
     let plan = tree.plan(&list).unwrap();
-    assert_eq!((plan.cost(), plan.steps().len()), (2, 68));
+    assert_eq!((plan.cost(), plan.steps().len()), (2, 66));
     assert_eq!(tree.check(&list, &plan), Ok(2));
 }
 
