@@ -45,7 +45,7 @@ TOP = Path(__file__).resolve().parent.parent
 sys.dont_write_bytecode = True
 sys.path[:0] = [str(TOP / "bench"), str(TOP / "bindings/python")]
 import hot  # noqa: E402
-from pickbracken import Access, AsyncLocks, Locks, Plans, Tree, document, plan  # noqa: E402
+from pickbracken import Access, AsyncLocks, Locks, Plans, Tree, document  # noqa: E402
 
 PROGRAM = TOP / "crates/grove/out/grove"
 DEPTH, NODES, ACCESSES = 32, 4_096, 64
@@ -154,10 +154,10 @@ def timed(case: Case, grove: str, runs: int, rust: Path) -> dict[str, list[float
     ways: dict[str, Callable[[], object]] = {
         "process": lambda: printed(grove, whole),
         "Python, by document": lambda: document.plan(whole),
-        "Python, by kept tree": lambda: plan(tree, accesses),
+        "Python, by kept tree": lambda: tree.plan(accesses),
     }
     need(printed(grove, whole) == wanted, "the process prints another plan")
-    for found in (plan(tree, accesses), Plans(case.weights()).plan(case.gets)):
+    for found in (tree.plan(accesses), Plans(case.weights()).plan(case.gets)):
         need(f"cost {found.cost}\n" == wanted[: wanted.index("\n") + 1], "Python has another plan")
     times = {name: seconds_of(way, max(runs // 10, 1) if name == "process" else runs) for name, way in ways.items()}
     times |= {f"Python, {name}": seconds for name, seconds in of_any_size(case.weights(), case.gets, runs).items()}
