@@ -80,6 +80,11 @@ class Browser:
             raise BadPage(f"{script}: {came['exceptionDetails']['exception'].get('description')}")
         return came["result"].get("value")
 
+    def press(self, key: str, number: int) -> None:
+        """Presses a key and lets it go."""
+        for kind in ("keyDown", "keyUp"):
+            self.call("Input.dispatchKeyEvent", type=kind, key=key, code=key, windowsVirtualKeyCode=number)
+
     def until(self, script: str) -> None:
         """Waits until the script gives something that is true."""
         ends = time.monotonic() + LONGEST

@@ -28,6 +28,7 @@ from sweeps.crowds import SLOTS, is_silent
 from sweeps.documents import seeded
 from sweeps.hostile_lines import note_memory, taken
 from sweeps.program import Tally, Try
+from sweeps.readable import note_readable
 from sweeps.ten_lines import ADD, GET, TEXT, TREE, WEIGHTS
 
 TRIED = "requests, most of them hostile"
@@ -177,6 +178,7 @@ def tries(program: str, room: str) -> list[Try]:
         Try("as many replies as a response may have", partial(most_replies, program)),
         Try("what the page asks", partial(what_the_page_asks, program)),
         Try("when the page asks for a reweighing", partial(when_it_reweighs, program)),
+        Try("what can be read and reached", partial(read_and_reached, program)),
         Try("nodes below each", partial(below_each, program)),
         Try("waiting for a round", partial(waiting, program)),
         Try("waiting in vain", partial(waiting_in_vain, program)),
@@ -420,6 +422,11 @@ def when_it_reweighs(program: str, tally: Tally) -> None:
     tally.note("the script", None if is_well else f"it has {called!r}")
     if Browser.is_there():
         clicks_on_reweigh(program, tally)
+
+
+def read_and_reached(program: str, tally: Tally) -> None:
+    with serving(program, TREE) as server:
+        note_readable(f"http://{HOST}:{server.port}/", PAGE.read_text(), tally)
 
 
 def clicks_on_reweigh(program: str, tally: Tally) -> None:

@@ -17,7 +17,7 @@ pub const PAGE: &str = r##"<!DOCTYPE html>
 }
 @media screen and (prefers-color-scheme: dark) {
   :root {
-    --paper: #15181c; --panel: #1e2329; --ink: #e8eaec; --quiet: #a9b2bc; --line: #4a535d; --edge: #808b97;
+    --paper: #15181c; --panel: #1e2329; --ink: #e8eaec; --quiet: #b0b8c1; --line: #4a535d; --edge: #808b97;
     --hot: #955000; --gauge: #ffb45c; --bar: #33485c; --work: #a8d1f5; --word: #0c1116; --link: #a8d1f5;
     --bad: #ffb3ab; --writes: #ffb27d; --shade: rgb(255 255 255 / .4);
   }
@@ -86,7 +86,7 @@ tfoot td { border-bottom: 0; font-weight: 600; }
   background: linear-gradient(var(--gauge) 0 0) left bottom / calc(var(--heat, 0) * 100%) 4px no-repeat
     color-mix(in srgb, var(--hot) calc(var(--tint, 0) * 100%), var(--paper));
 }
-td[data-change]::before { content: attr(data-change) " "; color: var(--quiet); }
+td[data-change]::before { content: attr(data-change) " "; }
 td[data-change] { font-weight: 700; }
 #table {
   --gaps: 1.2rem; --indent: 2ch; --most: 110ch; table-layout: fixed; width: 100%;
@@ -236,7 +236,7 @@ summary { cursor: pointer; }
     in a long round since the last reweighing. The <em>record</em> is its number.</p>
 </section>
 </main>
-<dialog id="lowering" aria-labelledby="lowering-title">
+<dialog id="lowering" aria-labelledby="lowering-title" aria-describedby="lowers">
   <h2 id="lowering-title">Lower the weights?</h2>
   <p id="lowers"></p>
   <p>A reweighing halves what each weight is above 1, and then adds the node's waits. Waits come of long rounds only,
@@ -973,7 +973,7 @@ function weightsOf(flow) {
 }
 
 function planSection(list, reply, at) {
-  const title = `List ${at + 1}`;
+  const name = `list ${at + 1}`, title = `List ${at + 1}`;
   const section = make("section", { class: "plan", "aria-label": title }, make("h3", {}, title));
   if (reply.error) {
     section.append(bad(`It is ${faultText(reply)}`));
@@ -986,9 +986,9 @@ function planSection(list, reply, at) {
   });
   section.firstChild.append(`: the least cost is ${reply.cost}`);
   section.append(
-    scrolling(`the plan of ${title}`, picture(list, slots, costs, reply.cost)),
-    stepsDetails(reply.plan),
-    certificate(list, slots, weights, reply),
+    scrolling(`the plan of ${name}`, picture(list, slots, costs, reply.cost)),
+    stepsDetails(name, reply.plan),
+    certificate(name, list, slots, weights, reply),
   );
   return section;
 }
@@ -1004,7 +1004,9 @@ function keyOfPictures() {
 }
 
 function picture(list, slots, bars, cost) {
-  const ROW = 24, LEFT = 16, TOP = 50, COSTS = 220, COLUMN = 46;
+  const ROW = 24, LEFT = 16, TOP = 50, COSTS = 220;
+  // Each access has room for its word.
+  const COLUMN = Math.max(46, ...list.map((access) => wordOf(access).length * 8 + 8));
   const depths = bars.map((bar) => depthOf(bar.node) - depthOf(bars[0].node));
   const names = bars.map((bar, at) => (at ? bar.node.slice(bar.node.lastIndexOf("/") + 1) : bar.node));
   const weightsEnd = LEFT + 70 + Math.max(40, ...names.map((name, at) => name.length * 8 + depths[at] * 14));
@@ -1038,6 +1040,8 @@ function picture(list, slots, bars, cost) {
   return svg;
 }
 
+const wordOf = ({ operation, length }) => (length > 1 ? `${operation} ×${length}` : operation);
+
 /** From the lock to the release, with the node's accesses; where both are at one slot, a stroke. */
 function barOf(bar, list, x, y) {
   const left = x(bar.lock), right = x(bar.release);
@@ -1045,21 +1049,20 @@ function barOf(bar, list, x, y) {
   const parts = [draw("rect", { class: "bar", x: left, y: y - 4, width: right - left, height: 18 })];
   list.forEach((access, at) => {
     if (access.path !== bar.node) return;
-    const word = access.length > 1 ? `${access.operation} ×${access.length}` : access.operation;
     parts.push(draw("rect", { class: "work", x: x(at) + 2, y: y - 2, width: x(at + 1) - x(at) - 4, height: 14 }));
-    parts.push(draw("text", { class: "word", x: (x(at) + x(at + 1)) / 2, y: y + 9 }, word));
+    parts.push(draw("text", { class: "word", x: (x(at) + x(at + 1)) / 2, y: y + 9 }, wordOf(access)));
   });
   return parts;
 }
 
-function stepsDetails(steps) {
+function stepsDetails(name, steps) {
   const words = steps.map(([kind, what]) => make("li", {}, make("code", {}, `${kind} ${what}`)));
-  const title = make("summary", {}, `The plan's ${steps.length} steps`);
+  const title = make("summary", {}, `The ${steps.length} steps of ${name}'s plan`);
   return make("details", {}, title, make("ol", { start: 0 }, ...words));
 }
 
 /** The flow, what each row adds to the bound, and a button that has the server's checker look at it. */
-function certificate(list, slots, weights, { plan, flow, cost }) {
+function certificate(name, list, slots, weights, { plan, flow, cost }) {
   const paths = list.map((access) => access.path);
   let bound = 0n;
   const rows = flow.map((row) => {
@@ -1071,16 +1074,17 @@ function certificate(list, slots, weights, { plan, flow, cost }) {
   });
   const heads = ["node", "weight", "above", "held", "first", "last", "own", "adds to the bound"];
   const sum = `${bound} ${String(bound) === String(cost) ? "=" : "isn't"} the cost ${cost}`;
-  const button = make("button", { type: "button", class: "asks" }, "Check it");
+  const told = `Check it: the certificate of ${name}`;
+  const button = make("button", { type: "button", class: "asks", "aria-label": told }, "Check it");
   const verdict = make("span", { role: "status" });
   const check = JSON.stringify({ flow, plan }).slice(1, -1);
   button.addEventListener("click", async () => {
     verdict.textContent = await checked(`{"check":{"version":2,"list":${jsonOf(list)},${check}}}`);
   });
-  return make("details", { open: "" }, make("summary", {}, "The certificate: no legal plan costs less"),
+  return make("details", { open: "" }, make("summary", {}, `The certificate of ${name}: no legal plan costs less`),
     make("p", {}, "The amounts from above to own are a flow. It bounds what any legal plan costs with these weights,"
       + " and the bound is this plan's cost."),
-    tableOf("the certificate", heads, rows, { foot: ["total", "", "", "", "", "", "", sum] }),
+    tableOf(`the certificate of ${name}`, heads, rows, { foot: ["total", "", "", "", "", "", "", sum] }),
     make("div", { class: "row" }, button, verdict));
 }
 
