@@ -704,7 +704,7 @@ LIMITS = [
         "crates/grove_log/src/reading.rt",
         "HEAD - 12",
         [
-            ("docs/FORMATS.md", "its version, 1, and {} bytes that"),
+            ("docs/FORMATS.md", "its version, 1, and {} random bytes"),
             ("docs/DECISIONS.md", "with a number of {} random bytes"),
         ],
     ),
