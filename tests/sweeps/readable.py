@@ -56,6 +56,7 @@ def note_readable(address: str, script: str, tally: Tally) -> None:
                 page.until("document.querySelectorAll('section.plan').length === 2")
                 note_names(page, f"{width} wide", tally)
                 note_keys(page, f"{width} wide", tally)
+                note_written(page, f"{width} wide", tally)
 
 
 def contrasts(script: str) -> Iterator[str | None]:
@@ -98,3 +99,17 @@ def note_keys(page: Browser, where: str, tally: Tally) -> None:
         shown = shown and (at < 0 or outline != "none")
     tally.note(f"{where}: Tab", None if came == [*range(count), -1] else f"it is at {came} of {count}")
     tally.note(f"{where}: what Tab is at", None if shown else "something has no outline")
+
+
+def note_written(page: Browser, where: str, tally: Tally) -> None:
+    """What the key Enter writes of a node into the lists is told, until something else is written there."""
+    page.run("document.getElementById('table').focus()")
+    page.press("Enter", 13)
+    line = page.run("document.getElementById('lists').value.split('\\n').at(-2)")
+    told = page.run("document.getElementById('written').textContent")
+    wanted = f"{line} is the last line of the lists."
+    tally.note(f"{where}: Enter", None if line == "get /" and told == wanted else f"it wrote {line!r} and told {told!r}")
+    page.run("document.getElementById('lists').focus()")
+    page.call("Input.insertText", text="get /b\n")
+    told = page.run("document.getElementById('written').textContent")
+    tally.note(f"{where}: more lines", None if told == "" else f"it still tells {told!r}")

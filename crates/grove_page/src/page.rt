@@ -1127,7 +1127,10 @@ addEventListener("resize", measure);
 NARROW.addEventListener("change", showTree);
 addEventListener("beforeprint", () => setPrinting(true));
 addEventListener("afterprint", () => setPrinting(false));
-byId("lists").addEventListener("input", showExample);
+byId("lists").addEventListener("input", () => {
+  byId("written").textContent = "";
+  showExample();
+});
 byId("example-plan").addEventListener("click", planExample);
 byId("plan").addEventListener("click", () => answer(planned));
 byId("batch").addEventListener("click", () => answer(batched));
