@@ -31,6 +31,8 @@ COLOUR = re.compile(r"--(\w+): #(\w\w)(\w\w)(\w\w);")
 NAMED = {"button", "combobox", "DisclosureTriangle", "link", "region", "searchbox", "table", "textbox", "treegrid"}
 LISTS = "get /a\nadd /b 1 20\n\nget /a\n"
 FILL = f"document.getElementById('lists').value = {json.dumps(LISTS)}; document.getElementById('plan').click()"
+# What is too wide is known once the page has been drawn.
+DRAWN = "requestAnimationFrame(() => requestAnimationFrame(() => { window.isDrawn = true; }))"
 # What the keys are at: its place among all that they may be at, and whether it has a visible outline.
 AT = """(() => {
   const all = [...document.querySelectorAll('a, button, textarea, input, select, summary, [tabindex]')]
@@ -54,6 +56,8 @@ def note_readable(address: str, script: str, tally: Tally) -> None:
                 page.until("document.querySelectorAll('#nodes td.weight').length > 0")
                 page.run(FILL)
                 page.until("document.querySelectorAll('section.plan').length === 2")
+                page.run(DRAWN)
+                page.until("window.isDrawn")
                 note_names(page, f"{width} wide", tally)
                 note_keys(page, f"{width} wide", tally)
                 note_written(page, f"{width} wide", tally)
@@ -107,8 +111,8 @@ def note_written(page: Browser, where: str, tally: Tally) -> None:
     page.press("Enter", 13)
     line = page.run("document.getElementById('lists').value.split('\\n').at(-2)")
     told = page.run("document.getElementById('written').textContent")
-    wanted = f"{line} is the last line of the lists."
-    tally.note(f"{where}: Enter", None if line == "get /" and told == wanted else f"it wrote {line!r} and told {told!r}")
+    is_told = line == "get /" and told == f"{line} is the last line of the lists."
+    tally.note(f"{where}: Enter", None if is_told else f"it wrote {line!r} and told {told!r}")
     page.run("document.getElementById('lists').focus()")
     page.call("Input.insertText", text="get /b\n")
     told = page.run("document.getElementById('written').textContent")
