@@ -13,7 +13,7 @@ UNITS = {" KiB": 2**10, " MiB": 2**20, " GiB": 2**30, " ms": 0.001}
 CODE = re.compile(r"^```.*?^```$|`[^`\n]*`", re.M | re.S)
 # A number of four digits or more, and one of two or more behind the words of a limit.
 LARGE = r"\d{1,3}(?:,\d{3})+"
-BOUND = r"(?:(?<=at most )|(?<=more than )|(?<=fewer than )|(?<=up to ))\d{2,}"
+BOUND = r"(?:(?<=at most )|(?<=more than )|(?<=fewer than )|(?<=up to )|(?<= 1 to )|(?<=above ))\d{2,}"
 NUMBER = re.compile(rf"(?<![\w.,:^/-])(?:{LARGE}|{BOUND})(?![\w^]|[.,:/-]\d)")
 # A number that was measured stands in a paragraph with its commit; tools/believed compares how many lines there are.
 MEASURED = re.compile(r"\bcommit [0-9a-f]{7,40}\b")

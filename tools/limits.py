@@ -206,13 +206,7 @@ LIMITS = [
             ("docs/DECISIONS.md", "up to 16 with at most {} bytes; each"),
         ],
     ),
-    (
-        "crates/grove_desk/src/pipeline.rt",
-        "SHORT_LINE",
-        [
-            ("docs/DECISIONS.md", "if the line has more than {} bytes."),
-        ],
-    ),
+    ("crates/grove_desk/src/pipeline.rt", "SHORT_LINE", [("docs/DECISIONS.md", "if the line has more than {} bytes.")]),
     ("crates/grove_desk/src/desk.rt", "ALONE", [("docs/DECISIONS.md", "has put lines {} times in a row")]),
     (
         "crates/grove_page/src/service.rt",
@@ -325,20 +319,8 @@ LIMITS = [
             ("docs/FORMATS.md", "the number of a job, from 0, at most {}."),
         ],
     ),
-    (
-        "crates/grove_session/src/sessions.rt",
-        "MOST_READS",
-        [
-            ("docs/SESSIONS.md", "the source was read 2^{} times"),
-        ],
-    ),
-    (
-        "crates/grove_session/src/open_line.rt",
-        "MOST_ROOM",
-        [
-            ("docs/OPERATING.md", "it keeps {} bytes for lines"),
-        ],
-    ),
+    ("crates/grove_session/src/sessions.rt", "MOST_READS", [("docs/SESSIONS.md", "the source was read 2^{} times")]),
+    ("crates/grove_session/src/open_line.rt", "MOST_ROOM", [("docs/OPERATING.md", "it keeps {} bytes for lines")]),
     (
         "crates/grove_desk/src/board.rt",
         "MOST_TAKEN",
@@ -350,41 +332,15 @@ LIMITS = [
             ("docs/OPERATING.md", "answered together, up to {}."),
         ],
     ),
-    (
-        "crates/grove_desk/src/desk.rt",
-        "LARGE_LINE",
-        [
-            ("docs/OPERATING.md", "those above {} bytes are read"),
-        ],
-    ),
-    (
-        "crates/grove_page/src/desk_front.rt",
-        "LONGEST_WAIT",
-        [
-            ("docs/PAGE.md", "or after {} seconds, with what"),
-        ],
-    ),
+    ("crates/grove_desk/src/desk.rt", "LARGE_LINE", [("docs/OPERATING.md", "those above {} bytes are read")]),
+    ("crates/grove_page/src/desk_front.rt", "LONGEST_WAIT", [("docs/PAGE.md", "or after {} seconds, with what")]),
     (
         "crates/grove_hint/src/session.rt",
         "MOST_READ",
-        [
-            ("docs/SESSIONS.md", "A line of more than {} bytes isn't examined"),
-        ],
+        [("docs/SESSIONS.md", "A line of more than {} bytes isn't examined")],
     ),
-    (
-        "crates/grove/src/hint_lines.rt",
-        "MOST_HINTS",
-        [
-            ("docs/COMMANDS.md", "lines are answered: at most {}."),
-        ],
-    ),
-    (
-        "crates/grove_draw/src/text.rt",
-        "NAMES",
-        [
-            ("docs/COMMANDS.md", "a name of more than {} letters"),
-        ],
-    ),
+    ("crates/grove/src/hint_lines.rt", "MOST_HINTS", [("docs/COMMANDS.md", "lines are answered: at most {}.")]),
+    ("crates/grove_draw/src/text.rt", "NAMES", [("docs/COMMANDS.md", "a name of more than {} letters")]),
     (
         "crates/grove_serve/src/log.rt",
         "MOST_LINES",
@@ -393,54 +349,16 @@ LIMITS = [
             ("docs/FAULTS.md", "or more than {} events in a second"),
         ],
     ),
-    (
-        "crates/grove_serve/src/connections.rt",
-        "FAILURES",
-        [
-            ("docs/SESSIONS.md", "After each {} such errors"),
-        ],
-    ),
-    (
-        "crates/grove_serve/src/room.rt",
-        "MOST_HEAD",
-        [
-            ("docs/PAGE.md", "if its head of at most {} bytes"),
-        ],
-    ),
-    (
-        "crates/grove_data/src/data.rt",
-        "FEW_BYTES",
-        [
-            ("docs/OPERATING.md", "after more than {} MiB of rounds"),
-        ],
-    ),
-    (
-        "crates/grove_proof/src/row_sums.rt",
-        "GREATEST",
-        [
-            ("docs/CERTIFICATE.md", "No amount is above {}."),
-        ],
-    ),
-    (
-        "crates/grove_wire/src/sketch.rt",
-        "MOST_NESTED",
-        [
-            ("docs/FORMATS.md", "Values that nest {} deep are read"),
-        ],
-    ),
-    (
-        "crates/grove_table/src/planting.rt",
-        "MOST_NODES",
-        [
-            ("docs/PROOFS.md", "or with more than {} nodes"),
-        ],
-    ),
+    ("crates/grove_serve/src/connections.rt", "FAILURES", [("docs/SESSIONS.md", "After each {} such errors")]),
+    ("crates/grove_serve/src/room.rt", "MOST_HEAD", [("docs/PAGE.md", "if its head of at most {} bytes")]),
+    ("crates/grove_data/src/data.rt", "FEW_BYTES", [("docs/OPERATING.md", "after more than {} MiB of rounds")]),
+    ("crates/grove_proof/src/row_sums.rt", "GREATEST", [("docs/CERTIFICATE.md", "No amount is above {}.")]),
+    ("crates/grove_wire/src/sketch.rt", "MOST_NESTED", [("docs/FORMATS.md", "Values that nest {} deep are read")]),
+    ("crates/grove_table/src/planting.rt", "MOST_NODES", [("docs/PROOFS.md", "or with more than {} nodes")]),
     (
         "crates/grove_table/src/paths.rt",
         "LONGEST_NAME",
-        [
-            ("docs/FORMATS.md", "length, and its name | 4, 1, up to {} |"),
-        ],
+        [("docs/FORMATS.md", "length, and its name | 4, 1, up to {} |")],
     ),
     (
         "crates/grove_nodes/src/building.rt",
@@ -453,31 +371,11 @@ LIMITS = [
     (
         "bindings/python/pickbracken/shapes.py",
         "MOST_DEPTH",
-        [
-            ("docs/LIBRARY.md", "An accessed node is at most {} below"),
-        ],
+        [("docs/LIBRARY.md", "An accessed node is at most {} below")],
     ),
-    (
-        "bindings/python/pickbracken/lists.py",
-        "MOST_LISTS",
-        [
-            ("docs/LIBRARY.md", "At most {} lists are kept"),
-        ],
-    ),
-    (
-        "bindings/python/pickbracken/shapes.py",
-        "MOST_STEPS",
-        [
-            ("docs/LIBRARY.md", "lists are kept, and {} steps"),
-        ],
-    ),
-    (
-        "bindings/python/pickbracken/accesses.py",
-        "MOST",
-        [
-            ("docs/LIBRARY.md", "-9223372036854775808 to {}."),
-        ],
-    ),
+    ("bindings/python/pickbracken/lists.py", "MOST_LISTS", [("docs/LIBRARY.md", "At most {} lists are kept")]),
+    ("bindings/python/pickbracken/shapes.py", "MOST_STEPS", [("docs/LIBRARY.md", "lists are kept, and {} steps")]),
+    ("bindings/python/pickbracken/accesses.py", "MOST", [("docs/LIBRARY.md", "-9223372036854775808 to {}.")]),
     (
         "cluster/grove_etcd/choosing.py",
         "MOST_JOBS",
@@ -486,27 +384,9 @@ LIMITS = [
             ("docs/CLUSTER.md", "or once {} jobs have ended"),
         ],
     ),
-    (
-        "cluster/grove_etcd/choosing.py",
-        "MOST_NODES",
-        [
-            ("docs/CLUSTER.md", "at most 256 jobs, {} nodes"),
-        ],
-    ),
-    (
-        "cluster/grove_etcd/choosing.py",
-        "MOST_EVENTS",
-        [
-            ("docs/CLUSTER.md", "4,096 nodes and 2^{} events"),
-        ],
-    ),
-    (
-        "cluster/grove_etcd/following.py",
-        "EVERY_SECONDS",
-        [
-            ("docs/CLUSTER.md", "Each {} seconds (`--every`)"),
-        ],
-    ),
+    ("cluster/grove_etcd/choosing.py", "MOST_NODES", [("docs/CLUSTER.md", "at most 256 jobs, {} nodes")]),
+    ("cluster/grove_etcd/choosing.py", "MOST_EVENTS", [("docs/CLUSTER.md", "4,096 nodes and 2^{} events")]),
+    ("cluster/grove_etcd/following.py", "EVERY_SECONDS", [("docs/CLUSTER.md", "Each {} seconds (`--every`)")]),
     (
         "cluster/grove_etcd/judging.py",
         "MOST_BYTES",
@@ -515,13 +395,7 @@ LIMITS = [
             ("docs/CLUSTER.md", "its text has more than {} bytes"),
         ],
     ),
-    (
-        "cluster/grove_etcd/keys.py",
-        r'JOB_NAME = .*?\{1,(\d+)\}',
-        [
-            ("docs/CLUSTER.md", "an ID has 1 to {} of"),
-        ],
-    ),
+    ("cluster/grove_etcd/keys.py", r"JOB_NAME = .*?\{1,(\d+)\}", [("docs/CLUSTER.md", "an ID has 1 to {} of")]),
     (
         "cluster/grove_etcd/keys.py",
         "FORMAT",
@@ -530,126 +404,38 @@ LIMITS = [
             ("docs/CLUSTER.md", "don't begin (`other-format {}`)"),
         ],
     ),
-    (
-        "cluster/grove_etcd/members.py",
-        "MOST_OPERATIONS",
-        [
-            ("docs/CLUSTER.md", "It has to allow {} operations"),
-        ],
-    ),
-    (
-        "cluster/grove_etcd/signs.py",
-        "PATIENCE",
-        [
-            ("docs/CLUSTER.md", "Keep `--patience` at its {} seconds"),
-        ],
-    ),
-    (
-        "cluster/grove_etcd/worker.py",
-        "MOST_WAITING",
-        [
-            ("docs/CLUSTER.md", "`--most-waiting N` ({}) says"),
-        ],
-    ),
-    (
-        "cluster/work",
-        r'"--tries", type=count, default=(\d+)',
-        [
-            ("docs/CLUSTER.md", "After `--tries` of them ({})"),
-        ],
-    ),
+    ("cluster/grove_etcd/members.py", "MOST_OPERATIONS", [("docs/CLUSTER.md", "It has to allow {} operations")]),
+    ("cluster/grove_etcd/signs.py", "PATIENCE", [("docs/CLUSTER.md", "Keep `--patience` at its {} seconds")]),
+    ("cluster/grove_etcd/worker.py", "MOST_WAITING", [("docs/CLUSTER.md", "`--most-waiting N` ({}) says")]),
+    ("cluster/work", r'"--tries", type=count, default=(\d+)', [("docs/CLUSTER.md", "After `--tries` of them ({})")]),
     (
         "cluster/grove_etcd/submitting.py",
         "MOST_PARTS * MOST_JOBS",
-        [
-            ("cluster/README.md", "Submitters put up to {} jobs in one"),
-        ],
+        [("cluster/README.md", "Submitters put up to {} jobs in one")],
     ),
-    (
-        "cluster/grove_etcd/worker.py",
-        "MOST_SHORT",
-        [
-            ("cluster/README.md", "looks at the oldest {}."),
-        ],
-    ),
-    (
-        "cluster/grove_etcd/worker.py",
-        "MOST_TOGETHER",
-        [
-            ("cluster/README.md", "After two of fewer than {} jobs"),
-        ],
-    ),
-    (
-        "cluster/grove_etcd/worker.py",
-        "MOMENT_SECONDS",
-        [
-            ("cluster/README.md", "jobs within {} ms the worker"),
-        ],
-    ),
-    (
-        "cluster/grove_etcd/worker.py",
-        "LONG_GATHER_SECONDS",
-        [
-            ("cluster/README.md", "waits {} ms for more"),
-        ],
-    ),
-    (
-        "cluster/grove_etcd/worker.py",
-        "GATHER_SECONDS",
-        [
-            ("cluster/README.md", "or {} ms after one of few"),
-        ],
-    ),
-    (
-        "cluster/grove_etcd/shares.py",
-        "MOST_ALONE",
-        [
-            ("cluster/README.md", "have a share, one for each {}."),
-        ],
-    ),
+    ("cluster/grove_etcd/worker.py", "MOST_SHORT", [("cluster/README.md", "looks at the oldest {}.")]),
+    ("cluster/grove_etcd/worker.py", "MOST_TOGETHER", [("cluster/README.md", "After two of fewer than {} jobs")]),
+    ("cluster/grove_etcd/worker.py", "MOMENT_SECONDS", [("cluster/README.md", "jobs within {} ms the worker")]),
+    ("cluster/grove_etcd/worker.py", "LONG_GATHER_SECONDS", [("cluster/README.md", "waits {} ms for more")]),
+    ("cluster/grove_etcd/worker.py", "GATHER_SECONDS", [("cluster/README.md", "or {} ms after one of few")]),
+    ("cluster/grove_etcd/shares.py", "MOST_ALONE", [("cluster/README.md", "have a share, one for each {}.")]),
     (
         "cluster/grove_etcd/shares.py",
         "LONGEST_LEFT_SECONDS",
-        [
-            ("cluster/README.md", "nothing is begun, and for {} otherwise"),
-        ],
+        [("cluster/README.md", "nothing is begun, and for {} otherwise")],
     ),
-    (
-        "cluster/grove_etcd/leash.py",
-        "MARGIN_SECONDS",
-        [
-            ("cluster/README.md", "less a tenth and {} ms"),
-        ],
-    ),
+    ("cluster/grove_etcd/leash.py", "MARGIN_SECONDS", [("cluster/README.md", "less a tenth and {} ms")]),
+    ("examples/nginx.conf", r"rate=(\d+)r/s", [("docs/OPERATING.md", "more than {} requests a second for long")]),
+    ("examples/nginx.conf", r"limit_conn +grove_each (\d+)", [("docs/OPERATING.md", "for long, or {} at once")]),
     (
         "examples/nginx.conf",
-        r'rate=(\d+)r/s',
-        [
-            ("docs/OPERATING.md", "more than {} requests a second for long"),
-        ],
-    ),
-    (
-        "examples/nginx.conf",
-        r'limit_conn +grove_each (\d+)',
-        [
-            ("docs/OPERATING.md", "for long, or {} at once"),
-        ],
-    ),
-    (
-        "examples/nginx.conf",
-        r'limit_conn +grove_all (\d+)',
+        r"limit_conn +grove_all (\d+)",
         [
             ("docs/OPERATING.md", "and for more than {} at once in all"),
             ("docs/OPERATING.md", "but for the limit of {}."),
         ],
     ),
-    (
-        "bindings/python/pyproject.toml",
-        r'requires-python = ">=3\.(\d+)"',
-        [
-            ("docs/LIBRARY.md", "from Python 3.{} on"),
-        ],
-    ),
+    ("bindings/python/pyproject.toml", r'requires-python = ">=3\.(\d+)"', [("docs/LIBRARY.md", "from Python 3.{} on")]),
     (
         "bindings/rust/Cargo.toml",
         r'rust-version = "1\.(\d+)"',
@@ -658,13 +444,7 @@ LIMITS = [
             ("docs/VERIFY.md", "of Rust 1.{} or later"),
         ],
     ),
-    (
-        "tools/given.py",
-        "MOST_BYTES",
-        [
-            ("docs/VERIFY.md", "reads at most {} MiB of standard input"),
-        ],
-    ),
+    ("tools/given.py", "MOST_BYTES", [("docs/VERIFY.md", "reads at most {} MiB of standard input")]),
     (
         "tools/edits",
         "MOST_OF_GATE",
@@ -714,4 +494,9 @@ LIMITS = [
     ("tools/prove", r"\bmemory_each=(\d+)000000\b", [("docs/VERIFY.md", "memory for ({} GB each")]),
     ("examples/quotas.draw.txt", r"document's plan: cost (\d+)", [("README.md", "held to the end cost {}, and")]),
     ("examples/quotas.draw.txt", r"settled plan: cost (\d+)", [("README.md", "plan below that costs {}]")]),
+    (
+        "crates/grove_words/src/definitions.rt",
+        r"u16\)\.range\(1\.\.=(\d+)\)",
+        [("docs/COMMANDS.md", "the port to listen on, 1 to {}, or")],
+    ),
 ]
