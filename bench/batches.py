@@ -11,6 +11,7 @@ cut in two as a batch of lists is. All are run in turn, RUNS times; the median a
 milliseconds, and for the jobs how many are done in a second and the ratios
 of the medians.
 """
+import argparse
 import statistics
 import subprocess
 import sys
@@ -137,7 +138,9 @@ def show_ratios(found, what):
 
 
 def main():
-    runs = int(sys.argv[1]) if len(sys.argv) > 1 else 3
+    parser = argparse.ArgumentParser(description=__doc__.partition("\n")[0])
+    parser.add_argument("runs", nargs="?", type=int, default=3, metavar="RUNS")
+    runs = parser.parse_args().runs
     if not PROGRAM.exists():
         sys.exit(f"no program {PROGRAM}: cd crates/grove_bench && rt run")
     print("by 1, 2 and 4 workers")

@@ -7,10 +7,10 @@ The first document has 4,096 nodes, 64 accesses and a plan of 8,256 steps, which
 The second is the same in 4,194,304 bytes, filled up with a member that the command does not use.
 Each run's cost is compared with the one worked out here.
 """
+import argparse
 import json
 import statistics
 import subprocess
-import sys
 import time
 from pathlib import Path
 
@@ -72,7 +72,9 @@ def texts(document):
 
 
 def main():
-    runs = int(sys.argv[1]) if len(sys.argv) > 1 else 5
+    parser = argparse.ArgumentParser(description=__doc__.partition("\n")[0])
+    parser.add_argument("runs", nargs="?", type=int, default=5, metavar="RUNS")
+    runs = parser.parse_args().runs
     subprocess.run([TOP / "grove", "--proved", "--help"], check=True, stdout=subprocess.DEVNULL)
     rows = tree_rows()
     accesses, plan, cost = walk(rows)

@@ -9,9 +9,9 @@ over a graph that is there and its run (bench/peer.cpp), `grove_bench plan` the 
 and the latest places. Of all rounds the least counts. The planner's cost has to be LEMON's.
 """
 
+import argparse
 import statistics
 import subprocess
-import sys
 import tempfile
 from pathlib import Path
 
@@ -69,7 +69,9 @@ def show(name, times):
 
 
 def main():
-    rounds = int(sys.argv[1]) if len(sys.argv) > 1 else 5
+    parser = argparse.ArgumentParser(description=__doc__.partition("\n")[0])
+    parser.add_argument("rounds", nargs="?", type=int, default=5, metavar="ROUNDS")
+    rounds = parser.parse_args().rounds
     cases = lists.suite()
     least = {}
     with tempfile.TemporaryDirectory(prefix="grove-peer-") as room:

@@ -7,10 +7,10 @@ The trees: a balanced one of 4,095 nodes, two children each; a chain of depth 32
 root, whose 64 ends force all 2,049 nodes. The lists: 1, 8 and 64 accesses, spread over the leaves (over the nodes of
 the chain, from both of its ends in turn).
 """
+import argparse
 import json
 import statistics
 import subprocess
-import sys
 import time
 from pathlib import Path
 
@@ -76,7 +76,9 @@ def timed(command, text, runs):
 
 
 def main():
-    runs = int(sys.argv[1]) if len(sys.argv) > 1 else 3
+    parser = argparse.ArgumentParser(description=__doc__.partition("\n")[0])
+    parser.add_argument("runs", nargs="?", type=int, default=3, metavar="RUNS")
+    runs = parser.parse_args().runs
     subprocess.run([TOP / "grove", "--proved", "--help"], check=True, stdout=subprocess.DEVNULL)
     shapes = {"balanced, 4,095 nodes": balanced(11), "chain, depth 32": branches(1, 32),
               "64 branches, depth 2": branches(64, 2), "64 branches, depth 8": branches(64, 8),
