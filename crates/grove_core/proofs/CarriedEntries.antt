@@ -1,5 +1,5 @@
 -- A job's accesses that are done ahead of the core, and the core that has taken them.
-use Rattle.std.proofs.Common.{◌≡◌, ℕ, zero, suc, ◌+◌, ◌<◌, ◌≤◌, ℤ, Bool, true, false, eqb, List, [], ◌∷◌, ◌++◌, length, reverse, ◌^◌, take, replicate, get_or, Option, Some, None, is_some, refl, sym, ◌∙◌, ap, subst, inl, inr, arith, append_assoc}
+use Rattle.std.proofs.Common.{◌≡◌, ℕ, zero, suc, ◌+◌, ◌<◌, ◌≤◌, ℤ, Bool, true, false, eqb, List, [], ◌∷◌, ◌++◌, length, reverse, take, replicate, get_or, Option, Some, None, is_some, refl, sym, ◌∙◌, ap, subst, inl, inr, arith, append_assoc}
 use Rattle.std.specs.List.{slice_get}
 use Rattle.std.proofs.lemmas.List.{append-nil}
 use Rattle.std.proofs.Math.Seq.{take-length}
@@ -17,22 +17,16 @@ use Rattle.grove_plan.specs.declared.step.Step.{Step}
 use Rattle.grove_plan.specs.declared.step.Step.TheVariants.{Lock}
 use Rattle.grove_plan.specs.declared.step.Step.TheVariants as plan_step
 use Rattle.grove_plan.specs.Plans.{locks, unlocks}
-use Rattle.grove_plan.proofs.Held.{held_not}
 use Rattle.grove_core.specs.declared.job.Job.{Job}
 use Rattle.grove_core.specs.declared.event.Event.{Event}
 use Rattle.grove_core.specs.declared.event.Event.TheVariants.{Take}
-use Rattle.grove_core.specs.Runs.{list_of, plan_of, steps_done, next_step, holds, deeds, run_records, run_replies}
-use Rattle.grove_tree.specs.Trees.{Rows}
-use Rattle.grove_core.specs.declared.progress.Progress.{Progress}
-use Rattle.grove_core.specs.declared.owner.Owner.{Owner}
+use Rattle.grove_core.specs.Runs.{list_of, plan_of, steps_done, next_step, holds, run_records, run_replies}
 use Rattle.grove_core.specs.Kept.{CoreState, past_of}
-use Rattle.grove_core.specs.Cores.{Owns, IsCore}
+use Rattle.grove_core.specs.Cores.{Owns}
 use Rattle.grove_core.specs.CarriedTests.{is_owner, KnowsAll, HasAll, Follows}
 use Rattle.grove_core.specs.Carried.{records_of, IsOf, after_steps, replies_in}
-use Rattle.grove_core.proofs.Precedence.{within_jobs}
-use Rattle.grove_core.proofs.NeverStalls.{steps_within}
 use Rattle.grove_core.proofs.StepTimes.{steps_new}
-use Rattle.grove_core.proofs.RunSteps.{deeds_length, plan_of_at, list_of_at, accessed_records, accessed_replies}
+use Rattle.grove_core.proofs.RunSteps.{plan_of_at, list_of_at, accessed_records, accessed_replies}
 use Rattle.grove_core.proofs.CoreReads.{reverse_last}
 use Rattle.grove_core.proofs.OwnerSteps.{holds_same}
 
@@ -282,26 +276,6 @@ holder_tells jobs past t node (Some u) owns = elim (cases_eq u t) [
   | inl e ↦ eq-eqb u t e ∙ sym (subst (λ (k : ℕ). holds jobs past k node ≡ true) e owns.0)
   | inr ne ↦ ne_eqb u t ne ∙ sym (owns.1 t (λ e. ne (sym e)))
 ]
-
-module _ (rows : Rows) (jobs : List Job) (opening : List ℤ) (past : List Event) (records : List ℤ) (progress : List Progress) (owners : List Owner) (waits : List ℕ)
-    (core : IsCore rows jobs opening past records progress owners waits) where
-  -- beyond the last node nothing is held
-  pub owner_past : (t node : ℕ) → length owners ≤ node → false ≡ holds jobs past t node
-  owner_past t node beyond = sym (held_not (plan_of jobs t) node (steps_done past t) (λ lock.
-      let within : node < length rows = (core.legal t (within_jobs jobs t lock.at (Lock node) lock.is_lock)).obeys.locks_nodes lock.at node lock.is_lock in
-      let all : length owners ≡ length rows = core.all_owners in
-      absurd (omega arith)))
-
-  -- there is a record for each node
-  pub records_all : length records ≡ length rows
-  records_all = ap length core.recorded ∙ deeds_length (deeds jobs past) opening ∙ core.opened
-
-  -- a job has done few steps
-  pub steps_few : (t : ℕ) → t < length jobs → steps_done past t < 2 ^ 32
-  steps_few t lt =
-      let le : steps_done past t ≤ length (plan_of jobs t) = steps_within jobs past core.run t in
-      let few : length (plan_of jobs t) < 2 ^ 32 = core.short t lt in
-      omega arith
 
 -- so many steps more leave what the core was opened with
 pub batch_after : (core new : CoreState) (t n : ℕ) → new ≡ after_steps core t n → (new.tree ≡ core.tree) × (new.jobs ≡ core.jobs) × (new.opening ≡ core.opening)

@@ -1,5 +1,5 @@
 -- The loops that open a core, a job further.
-use Rattle.std.proofs.Common.{◌≡◌, ℕ, zero, suc, Bool, true, false, ◌+◌, ◌^◌, ◌<◌, ◌≤◌, ℤ, List, [], ◌∷◌, ◌++◌, length, set, replicate, Some, None, refl, sym, ◌∙◌, ap, subst, inl, inr, arith, add-one}
+use Rattle.std.proofs.Common.{◌≡◌, ℕ, zero, suc, Bool, true, false, ◌+◌, ◌^◌, ◌<◌, ◌≤◌, List, [], ◌∷◌, ◌++◌, length, set, replicate, Some, None, refl, sym, ◌∙◌, ap, subst, inl, inr, arith, add-one}
 use Rattle.std.specs.List.{slice_get}
 use Rattle.std.proofs.lemmas.Option.{none-some, same_Some, slice_get_within}
 use Rattle.std.proofs.lemmas.List.{length-replicate}
@@ -12,16 +12,18 @@ use Rattle.grove_plan.specs.declared.step.Step.{Step}
 use Rattle.grove_plan.specs.declared.step.Step.TheVariants.{Lock}
 use Rattle.grove_plan.specs.Plans.{is_lock}
 use Rattle.grove_core.specs.declared.job.Job.{Job}
+use Rattle.grove_core.specs.declared.event.Event.{Event}
+use Rattle.grove_core.specs.Kept.{CoreState}
 use Rattle.grove_core.specs.declared.locking.Locked.{Locked}
 use Rattle.grove_core.specs.declared.progress.Progress.{Progress}
 use Rattle.grove_core.specs.declared.fault.OpenFault.{OpenFault}
 use Rattle.grove_core.specs.declared.fault.OpenFault.TheVariants.{BadPlan, Memory}
 use Rattle.grove_core.specs.Runs.{list_of, plan_of, holds, AllLegal}
-use Rattle.grove_core.specs.RunBounds.{lock_steps}
+use Rattle.grove_core.specs.RunBounds.{lock_steps, most_events}
 use Rattle.grove_core.specs.declared.owner.Owner.{Owner}
 use Rattle.grove_core.specs.declared.owner.Owner.TheVariants.{Nobody}
 use Rattle.grove_core.specs.Orders.{first_lock}
-use Rattle.grove_core.specs.Cores.{time_in, IsFirst, TellsFirsts, IsOwned, IsCore}
+use Rattle.grove_core.specs.Cores.{time_in, IsFirst, TellsFirsts, IsOwned, run_of, Tables, IsCore}
 use Rattle.grove_core.specs.Starts.{fault_of, IsFaultOf, HasStarted}
 use Rattle.grove_core.specs.Openings.{job_fault, IsFirstFault}
 use Rattle.grove_core.proofs.Precedence.{within_jobs}
@@ -111,33 +113,37 @@ firsts_within rows jobs legal node (t, first) =
     (legal t (within_jobs jobs t at.0 (Lock node) at.1)).obeys.locks_nodes at.0 node at.1
 
 -- the core before the first event
-pub opened : (rows : Rows) (jobs : List Job) (opening records : List ℤ) (progress : List Progress) (owners : List Owner) (waits : List ℕ) (n : ℕ)
-    → IsTree rows → length jobs ≤ 256 → AllLegal rows jobs → ((t : ℕ) → t < length jobs → length (plan_of jobs t) < 2 ^ 32) → length opening ≡ length rows → n ≡ length rows
-    → records ≡ opening → length progress ≡ length jobs → ((t : ℕ) (p : Progress) → slice_get progress t ≡ Some p → HasStarted (lock_steps (plan_of jobs t)) (length (list_of jobs t)) p)
-    → owners ≡ replicate n Nobody → waits ≡ replicate n 0
-    → IsCore rows jobs opening [] records progress owners waits
-opened rows jobs opening records progress owners waits n tree few legal short size nodes same all started free none = record {
-  tree = tree;
-  few = few;
-  legal = legal;
-  short = short;
-  opened = size;
-  run = tt;
-  recorded = same;
-  all_jobs = all;
-  come = λ t p at. let h : HasStarted (lock_steps (plan_of jobs t)) (length (list_of jobs t)) p = started t p at in record {
-    at = h.at;
-    marks = h.unmarked;
-    answers = h.silent;
-    room = h.room;
-    spare = h.spare;
-    locks = let e : length p.locked.items ≡ 0 = ap length h.unlocked in omega arith;
-    times = λ node first. ap (λ (ls : List Locked). time_in ls node) h.unlocked;
-    holding = h.holding ∙ sym (count_zero (length rows) (λ node. holds jobs [] t node) (λ node. refl));
-    held = let e : p.held_nodes ≡ 0 = h.holding in omega arith;
-  };
-  all_owners = ap length free ∙ length-replicate n Nobody ∙ nodes;
-  owned = λ node owner at. subst (λ (o : Owner). IsOwned jobs [] node o) (replicate_got n Nobody node owner (ap (λ (os : List Owner). slice_get os node) (sym free) ∙ at)) (λ t. refl, tt);
-  all_waits = ap length none ∙ length-replicate n 0 ∙ nodes;
-  waited = λ node count at. sym (replicate_got n 0 node count (ap (λ (ws : List ℕ). slice_get ws node) (sym none) ∙ at));
-}
+pub opened : (core : CoreState) (kept : Tables) (n : ℕ) → core.history ≡ []
+    → IsTree core.tree → length core.jobs ≤ 256 → AllLegal core.tree core.jobs → ((t : ℕ) → t < length core.jobs → length (plan_of core.jobs t) < 2 ^ 32) → length core.opening ≡ length core.tree
+    → n ≡ length core.tree → most_events core.jobs ≤ kept.room → kept.records ≡ core.opening → length kept.progress ≡ length core.jobs
+    → ((t : ℕ) (p : Progress) → slice_get kept.progress t ≡ Some p → HasStarted (lock_steps (plan_of core.jobs t)) (length (list_of core.jobs t)) p)
+    → kept.owners ≡ replicate n Nobody → kept.waits ≡ replicate n 0 → TellsFirsts n core.jobs kept.firsts
+    → IsCore (run_of core) kept
+opened core kept n new tree few legal short size nodes room same all started free none firsts =
+    subst (λ (es : List Event). IsCore (run_of (record core { history = es })) kept) (sym new) (record {
+      tree = tree;
+      few = few;
+      legal = legal;
+      short = short;
+      opened = size;
+      is_run = tt;
+      room = room;
+      recorded = same;
+      all_jobs = all;
+      come = λ t p at. let h : HasStarted (lock_steps (plan_of core.jobs t)) (length (list_of core.jobs t)) p = started t p at in record {
+        at = h.at;
+        marks = h.unmarked;
+        answers = h.silent;
+        room = h.room;
+        spare = h.spare;
+        locks = let e : length p.locked.items ≡ 0 = ap length h.unlocked in omega arith;
+        times = λ node first. ap (λ (ls : List Locked). time_in ls node) h.unlocked;
+        holding = h.holding ∙ sym (count_zero (length core.tree) (λ node. holds core.jobs [] t node) (λ node. refl));
+        held = let e : p.held_nodes ≡ 0 = h.holding in omega arith;
+      };
+      all_owners = ap length free ∙ length-replicate n Nobody ∙ nodes;
+      owned = λ node owner at. subst (λ (o : Owner). IsOwned core.jobs [] node o) (replicate_got n Nobody node owner (ap (λ (os : List Owner). slice_get os node) (sym free) ∙ at)) (λ t. refl, tt);
+      all_waits = ap length none ∙ length-replicate n 0 ∙ nodes;
+      waited = λ node count at. sym (replicate_got n 0 node count (ap (λ (ws : List ℕ). slice_get ws node) (sym none) ∙ at));
+      firsts = subst (λ (k : ℕ). TellsFirsts k core.jobs kept.firsts) nodes firsts;
+    })

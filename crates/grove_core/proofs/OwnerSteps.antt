@@ -7,7 +7,7 @@ use Rattle.std.proofs.lemmas.Bool.{cases_eq, ne_eqb, le-ltb}
 use Rattle.grove_base.specs.Numbers.{count_below}
 use Rattle.grove_tree.specs.Trees.{Rows}
 use Rattle.grove_plan.specs.declared.step.Step.TheVariants.{Lock, Unlock}
-use Rattle.grove_plan.specs.Plans.{locks, is_lock, unlocks, held, ObeysTreeProtocol}
+use Rattle.grove_plan.specs.Plans.{locks, unlocks, held, ObeysTreeProtocol}
 use Rattle.grove_plan.proofs.Held.{held_not, held_step_lock, held_step_unlock, held_step_other}
 use Rattle.grove_core.specs.declared.job.Job.{Job}
 use Rattle.grove_core.specs.declared.event.Event.{Event}

@@ -42,10 +42,9 @@ pub struct Core<'a> {
 }
 
 impl<'a> Model for Core<'a> {
-    ghost use Rattle.std.specs.Prelude.{◌≤◌, length, reverse, vec_capacity};
-    ghost use Rattle.grove_core.specs.RunBounds.{most_events};
+    ghost use Rattle.std.specs.Prelude.{reverse, vec_capacity};
     ghost use Rattle.grove_core.specs.Kept.{CoreState};
-    ghost use Rattle.grove_core.specs.Cores.{TellsFirsts, IsCore};
+    ghost use Rattle.grove_core.specs.Cores.{IsCore};
 
     ghost Value = { CoreState };
 
@@ -56,10 +55,21 @@ impl<'a> Model for Core<'a> {
       history = core.history.items;
     } };
 
-    ghost invariant = { λ core. IsCore core.tree.now core.jobs.now core.opening (reverse core.history.items)
-        core.records core.progress.items core.owners.items core.waits.items
-        × (most_events core.jobs.now ≤ vec_capacity core.history)
-        × TellsFirsts (length core.tree.now) core.jobs.now core.firsts.items };
+    ghost invariant = { λ core. IsCore
+        record {
+          tree = core.tree.now;
+          jobs = core.jobs.now;
+          opening = core.opening;
+          past = reverse core.history.items;
+        }
+        record {
+          room = vec_capacity core.history;
+          records = core.records;
+          progress = core.progress.items;
+          owners = core.owners.items;
+          waits = core.waits.items;
+          firsts = core.firsts.items;
+        } };
 }
 
 impl<'a> Core<'a> {

@@ -1,6 +1,6 @@
-ghost use Rattle.std.specs.Prelude.{◌≡◌, ◌+◌, ◌^◌, ◌<◌, ◌≤◌, ◌++◌, ◌∷◌, [], false, true};
+ghost use Rattle.std.specs.Prelude.{◌^◌, ◌<◌, ◌≤◌};
 ghost use Rattle.smallvec.specs.SmallVec.{HasRoomFor};
-ghost use Rattle.grove_core.specs.Cores.{KeepsLock};
+ghost use Rattle.grove_core.specs.Cores.{IsLocked, IsUnlocked, IsAnswered, IsMarked};
 
 use crate::locking::Locked;
 use grove_access::Reply;
@@ -30,11 +30,7 @@ impl Progress {
         requires few { self.old.steps_done < 2 ^ 32 }
         requires hold { self.old.held_nodes ≤ self.old.steps_done }
         requires room { HasRoomFor self.old.locked 1 }
-        ensures steps_done { self.new.steps_done ≡ self.old.steps_done + 1 }
-        ensures marked { self.new.marked ≡ false }
-        ensures replies { self.new.replies ≡ self.old.replies }
-        ensures locked { KeepsLock self.old.locked self.new.locked kept }
-        ensures held_nodes { self.new.held_nodes ≡ self.old.held_nodes + 1 }
+        ensures { IsLocked kept self.old self.new }
     {
         self.steps_done += 1;
         self.marked = false;
@@ -48,11 +44,7 @@ impl Progress {
     pub fn unlock(&mut self)
         requires few { self.old.steps_done < 2 ^ 32 }
         requires hold { 0 < self.old.held_nodes }
-        ensures steps_done { self.new.steps_done ≡ self.old.steps_done + 1 }
-        ensures marked { self.new.marked ≡ false }
-        ensures replies { self.new.replies ≡ self.old.replies }
-        ensures locked { self.new.locked ≡ self.old.locked }
-        ensures held_nodes { self.new.held_nodes + 1 ≡ self.old.held_nodes }
+        ensures { IsUnlocked self.old self.new }
     {
         self.steps_done += 1;
         self.marked = false;
@@ -63,12 +55,7 @@ impl Progress {
     pub fn answer(&mut self, reply: Reply)
         requires few { self.old.steps_done < 2 ^ 32 }
         requires room { HasRoomFor self.old.replies 1 }
-        ensures steps_done { self.new.steps_done ≡ self.old.steps_done + 1 }
-        ensures marked { self.new.marked ≡ false }
-        ensures replies { self.new.replies.items ≡ self.old.replies.items ++ reply ∷ [] }
-        ensures room { self.new.replies.capacity ≡ self.old.replies.capacity }
-        ensures locked { self.new.locked ≡ self.old.locked }
-        ensures held_nodes { self.new.held_nodes ≡ self.old.held_nodes }
+        ensures { IsAnswered reply self.old self.new }
     {
         self.steps_done += 1;
         self.marked = false;
@@ -77,11 +64,7 @@ impl Progress {
 
     /// The next step gets a mark.
     pub fn mark(&mut self)
-        ensures steps_done { self.new.steps_done ≡ self.old.steps_done }
-        ensures marked { self.new.marked ≡ true }
-        ensures replies { self.new.replies ≡ self.old.replies }
-        ensures locked { self.new.locked ≡ self.old.locked }
-        ensures held_nodes { self.new.held_nodes ≡ self.old.held_nodes }
+        ensures { IsMarked self.old self.new }
     {
         self.marked = true;
     }

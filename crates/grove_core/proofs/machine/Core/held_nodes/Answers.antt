@@ -1,16 +1,8 @@
-use Rattle.std.proofs.Common.{◌≡◌, ◌<◌, length, Some, arith}
-use Rattle.std.specs.List.{slice_get}
-use Rattle.grove_base.proofs.Lists.{read_at}
-use Rattle.grove_core.proofs.CoreReads.{held_within}
+use Rattle.grove_core.proofs.CoreReads.{seen, job_read}
+use Rattle.grove_core.proofs.CoreSteps.{held_within}
 use Rattle.grove_core.proofs.machine.Core.held_nodes.Goals as goal
 
-pub returns-clause-number : goal.returns-clause-number
-returns-clause-number c =
-    let job = rw (← c.self.view_is) at c.requires in
-    let all : length c.self.inside.progress.items ≡ length c.self.inside.jobs.now = c.self.invariant.0.all_jobs in
-    let lt : c.args.txn < length c.self.inside.progress.items = omega arith in
-    let at : slice_get c.self.inside.progress.items c.args.txn ≡ Some c.index.result.now = read_at c.self.inside.progress.items c.args.txn c.index.result.now lt c.index.ensures in
-    rw (← c.self.view_is) (c.self.invariant.0.come c.args.txn c.index.result.now at).holding
-
-pub returns-clause-within : goal.returns-clause-within
-returns-clause-within c = rw (← c.self.view_is) (held_within _ _ _ _ _ _ _ _ c.self.invariant.0 c.args.txn)
+pub returns : goal.returns
+returns c =
+    let core = seen c.self.view_is c.self.invariant in
+    record { number = (job_read core c.args.txn c.requires c.index.ensures).holding; within = held_within core c.args.txn }

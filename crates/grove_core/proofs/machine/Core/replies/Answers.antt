@@ -1,12 +1,6 @@
-use Rattle.std.proofs.Common.{◌≡◌, ◌<◌, length, Some, ◌∙◌, arith}
-use Rattle.std.specs.List.{slice_get}
-use Rattle.grove_base.proofs.Lists.{read_at}
+use Rattle.std.proofs.Common.{◌∙◌}
+use Rattle.grove_core.proofs.CoreReads.{seen, job_read}
 use Rattle.grove_core.proofs.machine.Core.replies.Goals as goal
 
 pub returns : goal.returns
-returns c =
-    let few = rw (← c.self.view_is) at c.requires in
-    let all : length c.self.inside.progress.items ≡ length c.self.inside.jobs.now = c.self.invariant.0.all_jobs in
-    let lt : c.args.txn < length c.self.inside.progress.items = omega arith in
-    let at : slice_get c.self.inside.progress.items c.args.txn ≡ Some c.index.result.now = read_at c.self.inside.progress.items c.args.txn c.index.result.now lt c.index.ensures in
-    rw (← c.self.view_is) (c.as_slice.ensures ∙ (c.self.invariant.0.come c.args.txn c.index.result.now at).answers)
+returns c = c.as_slice.ensures ∙ (job_read (seen c.self.view_is c.self.invariant) c.args.txn c.requires c.index.ensures).answers
