@@ -1,5 +1,6 @@
 ghost use Rattle.std.specs.Prelude.{◌≡◌, ◌≤◌, length, IfOk};
 ghost use Rattle.grove_run.specs.Runs.{places_of};
+ghost use Rattle.grove_run.specs.FinishedRuns.{IsFinishedRun};
 ghost use Rattle.grove_core.specs.Runs.{IsRun, IsFinished, run_records};
 ghost use Rattle.grove_core.specs.Orders.{placement_order};
 ghost use Rattle.grove_core.specs.Laws.{IsEachOnce, IsSerialBy};
@@ -20,33 +21,23 @@ pub struct Finished<'a> {
 }
 
 impl<'a> Model for Finished<'a> {
-    ghost use Rattle.std.specs.Prelude.{◌≡◌, ◌≤◌, length};
-    ghost use Rattle.grove_core.specs.Runs.{IsRun, IsFinished};
-    ghost use Rattle.grove_core.specs.Orders.{placement_order};
-    ghost use Rattle.grove_core.specs.Laws.{IsEachOnce, IsSerialBy};
-    ghost use Rattle.grove_core.specs.Kept.{past_of};
+    ghost use Rattle.std.specs.Prelude.{◌≤◌, length};
     ghost use Rattle.grove_run.specs.Runs.{FinishedState};
+    ghost use Rattle.grove_run.specs.FinishedRuns.{IsFinishedRun};
 
     ghost Value = { FinishedState };
 
     ghost view = { λ finished. record { core = finished.core; order = finished.order.items } };
 
-    ghost invariant = { λ finished. IsRun finished.core.jobs (past_of finished.core)
-        × IsFinished finished.core.jobs (past_of finished.core)
-        × (finished.order.items ≡ placement_order finished.core.tree finished.core.jobs (past_of finished.core))
-        × IsEachOnce finished.order.items (length finished.core.jobs)
-        × IsSerialBy finished.order.items finished.core.jobs finished.core.opening (past_of finished.core)
+    ghost invariant = { λ finished. IsFinishedRun finished.core.tree finished.core.jobs finished.core.opening
+        record { core = finished.core; order = finished.order.items }
         × (length finished.order.items ≤ 256) };
 }
 
 impl<'a> Finished<'a> {
     pub(crate) fn new(core: Core<'a>, order: Vec<u32>) -> Finished<'a>
-        requires run { IsRun core.jobs (past_of core) }
-        requires finished { IsFinished core.jobs (past_of core) }
-        requires order { order.items ≡ placement_order core.tree core.jobs (past_of core) }
-        requires once { IsEachOnce order.items (length core.jobs) }
+        requires run { IsFinishedRun core.tree core.jobs core.opening record { core = core; order = order.items } }
         requires few { length order.items ≤ 256 }
-        requires serial { IsSerialBy order.items core.jobs core.opening (past_of core) }
         ensures core { result.core ≡ core.entry }
         ensures order { result.order ≡ order.items }
     {
