@@ -1,17 +1,18 @@
 -- For the proofs alone: what a core keeps of its history, job by job and node by node.
 use Rattle.std.specs.Prelude.{◌≡◌, ◌≢◌, ℕ, ◌+◌, ◌^◌, ◌<◌, ◌≤◌, ◌==◌, ℤ, Bool, true, false, ⊤, List, [], ◌∷◌, length}
-use Rattle.std.specs.Prelude.{◌++◌, slice_get, Option, Some, None, MatchOption, if◌then◌else◌}
+use Rattle.std.specs.Prelude.{◌++◌, slice_get, Option, Some, None, MatchOption, if◌then◌else◌, Result, OnOk, OnErr, IfErr}
 use Rattle.smallvec.specs.SmallVec.{SmallVec}
 use Rattle.grove_base.specs.Numbers.{count_below}
 use Rattle.grove_tree.specs.Trees.{Rows, IsTree}
 use Rattle.grove_access.specs.declared.reply.Reply.{Reply}
 use Rattle.grove_core.specs.declared.job.Job.{Job}
 use Rattle.grove_core.specs.declared.event.Event.{Event}
+use Rattle.grove_core.specs.declared.fault.StepFault.{StepFault}
 use Rattle.grove_core.specs.declared.locking.Locked.{Locked}
 use Rattle.grove_core.specs.declared.progress.Progress.{Progress}
 use Rattle.grove_plan.specs.Plans.{is_lock}
 use Rattle.grove_core.specs.Runs.{list_of, plan_of, steps_done, holds, is_marked, AllLegal, IsRun, run_records}
-use Rattle.grove_core.specs.Runs.{run_replies, waits_of}
+use Rattle.grove_core.specs.Runs.{run_replies, waits_of, MayHappen, IsRefused}
 use Rattle.grove_core.specs.RunBounds.{lock_steps, most_events}
 use Rattle.grove_core.specs.Kept.{CoreState, past_of}
 use Rattle.grove_core.specs.Orders.{first_lock, lock_time, earlier}
@@ -137,3 +138,10 @@ pub record IsCore (run : Run) (kept : Tables) : Type 0 where
   pub all_waits : length kept.waits ≡ length run.tree
   pub waited : (node count : ℕ) → slice_get kept.waits node ≡ Some count → count ≡ waits_of run.jobs run.past node
   pub firsts : TellsFirsts (length run.tree) run.jobs kept.firsts
+
+-- an event that is tried: it happens where it may, and else it is refused for its first reason, and nothing changes
+pub record IsTried (event : Event) (old new : CoreState) (result : Result (Unit {0}) StepFault) : Type 0 where
+  pub accepted : OnOk result (MayHappen old.jobs (past_of old) event)
+  pub added : OnOk result (new ≡ record old { history = old.history ++ event ∷ [] })
+  pub refused : IfErr result (λ fault. IsRefused old.jobs (past_of old) event fault)
+  pub unchanged : OnErr result (new ≡ old)

@@ -9,7 +9,7 @@ ghost use Rattle.grove_core.specs.Laws.{CanGoOn};
 ghost use Rattle.grove_core.specs.Openings.{AllFit, IsFirstFault};
 ghost use Rattle.grove_core.specs.Replays.{IsFirstUnfinished};
 ghost use Rattle.grove_core.specs.Kept.{past_of};
-ghost use Rattle.grove_core.specs.Cores.{IsFirst};
+ghost use Rattle.grove_core.specs.Cores.{IsFirst, IsTried};
 
 use crate::following::is_owner;
 use crate::locking::{Locked, first_lock, time_in};
@@ -208,10 +208,7 @@ impl<'a> Core<'a> {
     }
 
     fn take(&mut self, txn: u32) -> Result<(), StepFault>
-        ensures accepted { OnOk result (MayHappen self.old.jobs (past_of self.old) (Event.Take txn)) }
-        ensures added { OnOk result (self.new ≡ record self.old { history = self.old.history ++ Event.Take txn ∷ [] }) }
-        ensures refused { IfErr result (λ fault. IsRefused self.old.jobs (past_of self.old) (Event.Take txn) fault) }
-        ensures unchanged { OnErr result (self.new ≡ self.old) }
+        ensures { IsTried (Event.Take txn) self.old self.new result }
     {
         match self.next_step(txn)? {
             Step::Lock(node) => self.try_lock(txn, node),
@@ -227,10 +224,7 @@ impl<'a> Core<'a> {
     }
 
     fn mark(&mut self, txn: u32) -> Result<(), StepFault>
-        ensures accepted { OnOk result (MayHappen self.old.jobs (past_of self.old) (Event.Mark txn)) }
-        ensures added { OnOk result (self.new ≡ record self.old { history = self.old.history ++ Event.Mark txn ∷ [] }) }
-        ensures refused { IfErr result (λ fault. IsRefused self.old.jobs (past_of self.old) (Event.Mark txn) fault) }
-        ensures unchanged { OnErr result (self.new ≡ self.old) }
+        ensures { IsTried (Event.Mark txn) self.old self.new result }
     {
         match self.next_step(txn)? {
             Step::Lock(node) => self.try_mark(txn, node),
@@ -241,10 +235,7 @@ impl<'a> Core<'a> {
     /// Does the job's next step, which is a lock of the node, where no other job holds it. A refusal changes nothing.
     pub fn try_lock(&mut self, txn: u32, node: Node) -> Result<(), StepFault>
         requires { next_step self.old.jobs (past_of self.old) txn ≡ Some (Step.Lock node) }
-        ensures accepted { OnOk result (MayHappen self.old.jobs (past_of self.old) (Event.Take txn)) }
-        ensures added { OnOk result (self.new ≡ record self.old { history = self.old.history ++ Event.Take txn ∷ [] }) }
-        ensures refused { IfErr result (λ fault. IsRefused self.old.jobs (past_of self.old) (Event.Take txn) fault) }
-        ensures unchanged { OnErr result (self.new ≡ self.old) }
+        ensures { IsTried (Event.Take txn) self.old self.new result }
     {
         match self.other_holder(txn, node) {
             Some(holder) => Err(StepFault::Blocked(holder)),
@@ -257,10 +248,7 @@ impl<'a> Core<'a> {
 
     fn try_mark(&mut self, txn: u32, node: Node) -> Result<(), StepFault>
         requires { next_step self.old.jobs (past_of self.old) txn ≡ Some (Step.Lock node) }
-        ensures accepted { OnOk result (MayHappen self.old.jobs (past_of self.old) (Event.Mark txn)) }
-        ensures added { OnOk result (self.new ≡ record self.old { history = self.old.history ++ Event.Mark txn ∷ [] }) }
-        ensures refused { IfErr result (λ fault. IsRefused self.old.jobs (past_of self.old) (Event.Mark txn) fault) }
-        ensures unchanged { OnErr result (self.new ≡ self.old) }
+        ensures { IsTried (Event.Mark txn) self.old self.new result }
     {
         let Some(holder) = self.other_holder(txn, node) else {
             return Err(StepFault::NotBlocked);
