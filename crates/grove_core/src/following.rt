@@ -1,4 +1,4 @@
-ghost use Rattle.std.specs.Prelude.{◌≡◌, ◌+◌, ◌<◌, ◌≤◌, ◌^◌, length, true, false, Some, slice_get};
+ghost use Rattle.std.specs.Prelude.{◌≡◌, ◌+◌, ◌<◌, ◌≤◌, ◌^◌, ◌↔◌, IsTrue, length, Some, slice_get};
 ghost use Rattle.grove_core.specs.CarriedTests.{is_owner, IsNext, Follows};
 
 use crate::Job;
@@ -9,8 +9,7 @@ use grove_plan::Step;
 pub fn follows(job: &Job, position: usize, entries: &[Entry]) -> bool
     requires position { position < 2 ^ 32 }
     requires few { length entries.now ≤ 64 }
-    ensures yes { result ≡ true → Follows job.now.list job.now.plan position entries.now }
-    ensures no { result ≡ false → Follows job.now.list job.now.plan position entries.now → ⊥ }
+    ensures { IsTrue result ↔ Follows job.now.list job.now.plan position entries.now }
 {
     for (ahead, entry) in entries.iter().enumerate() {
         if !is_next(job, position + ahead, entry) {
@@ -21,8 +20,7 @@ pub fn follows(job: &Job, position: usize, entries: &[Entry]) -> bool
 }
 
 fn is_next(job: &Job, position: usize, entry: &Entry) -> bool
-    ensures yes { result ≡ true → IsNext job.now.list job.now.plan position entry.now }
-    ensures no { result ≡ false → IsNext job.now.list job.now.plan position entry.now → ⊥ }
+    ensures { IsTrue result ↔ IsNext job.now.list job.now.plan position entry.now }
 {
     let Some(step) = step_at(job, position) else {
         return false;
@@ -31,8 +29,7 @@ fn is_next(job: &Job, position: usize, entry: &Entry) -> bool
 }
 
 fn is_listed(job: &Job, entry: &Entry) -> bool
-    ensures yes { result ≡ true → slice_get job.now.list entry.now.number ≡ Some entry.now.access }
-    ensures no { result ≡ false → slice_get job.now.list entry.now.number ≡ Some entry.now.access → ⊥ }
+    ensures { IsTrue result ↔ (slice_get job.now.list entry.now.number ≡ Some entry.now.access) }
 {
     entry.number < job.list.len() && job.list.get(entry.number) == entry.access
 }
@@ -46,8 +43,7 @@ pub fn step_at(job: &Job, position: usize) -> Option<Step>
 
 /// Is the known value the record of its node?
 pub fn has_value(records: &Records, known: Known) -> bool
-    ensures yes { result ≡ true → slice_get records.now known.node ≡ Some known.value }
-    ensures no { result ≡ false → slice_get records.now known.node ≡ Some known.value → ⊥ }
+    ensures { IsTrue result ↔ (slice_get records.now known.node ≡ Some known.value) }
 {
     (known.node.number() as usize) < records.len() && records.get(known.node) == known.value
 }

@@ -1,4 +1,4 @@
-ghost use Rattle.std.specs.Prelude.{◌≡◌, ◌+◌, ◌<◌, ◌≤◌, ◌^◌, ℕ, ℤ, ◌++◌, length, true, false, Some, slice_get};
+ghost use Rattle.std.specs.Prelude.{◌≡◌, ◌+◌, ◌<◌, ◌≤◌, ◌^◌, ◌↔◌, IsTrue, ℕ, ℤ, ◌++◌, length, true, false, Some, slice_get};
 ghost use Rattle.grove_access.specs.Effects.{record_at};
 ghost use Rattle.grove_access.specs.Carries.{present_at, carry_settled, IsSound};
 ghost use Rattle.grove_base.specs.Numbers.{count_below};
@@ -18,8 +18,7 @@ impl<'a> Core<'a> {
     /// Does the accesses that the carry's job did on the records that it has out, with the replies that it had, where
     /// the carry is of this core as it is now.
     pub fn take_carried(&mut self, carry: &Carry) -> bool
-        ensures taken { result ≡ true → IsOf self.old carry.now }
-        ensures refused { result ≡ false → IsOf self.old carry.now → ⊥ }
+        ensures taken { IsTrue result ↔ IsOf self.old carry.now }
         ensures added { result ≡ true → self.new ≡ after_steps self.old carry.now.txn (length carry.now.entries) }
         ensures records { result ≡ true → (node : ℕ) (value : ℤ) → present_at carry.now node ≡ Some value
             → slice_get (records_of self.new) node ≡ Some value }
@@ -128,8 +127,7 @@ impl<'a> Core<'a> {
     }
 
     fn knows_all(&self, txn: u32, known: &[Known]) -> bool
-        ensures yes { result ≡ true → KnowsAll self.now txn known.now }
-        ensures no { result ≡ false → KnowsAll self.now txn known.now → ⊥ }
+        ensures { IsTrue result ↔ KnowsAll self.now txn known.now }
     {
         for item in known {
             if !self.knows(txn, *item) {
@@ -140,8 +138,7 @@ impl<'a> Core<'a> {
     }
 
     fn knows(&self, txn: u32, item: Known) -> bool
-        ensures yes { result ≡ true → Knows self.now txn item }
-        ensures no { result ≡ false → Knows self.now txn item → ⊥ }
+        ensures { IsTrue result ↔ Knows self.now txn item }
     {
         self.holds(txn, item.node) && has_value(self.records(), item)
     }
@@ -150,8 +147,7 @@ impl<'a> Core<'a> {
     fn has_all(&self, carry: &Carry) -> bool
         requires job { carry.now.txn < length self.now.jobs }
         requires knows { KnowsAll self.now carry.now.txn carry.now.known }
-        ensures yes { result ≡ true → HasAll self.now carry.now }
-        ensures no { result ≡ false → HasAll self.now carry.now → ⊥ }
+        ensures { IsTrue result ↔ HasAll self.now carry.now }
     {
         carry.known().len() == self.held_nodes(carry.txn())
     }
@@ -170,12 +166,9 @@ impl<'a> Core<'a> {
     fn continues(&self, txn: u32, entries: &[Entry]) -> bool
         requires job { txn < length self.now.jobs }
         requires few { length entries.now ≤ 64 }
-        ensures yes { result ≡ true
-            → Follows (list_of self.now.jobs txn) (plan_of self.now.jobs txn) (steps_done (past_of self.now) txn)
+        ensures { IsTrue result
+            ↔ Follows (list_of self.now.jobs txn) (plan_of self.now.jobs txn) (steps_done (past_of self.now) txn)
             entries.now }
-        ensures no { result ≡ false
-            → Follows (list_of self.now.jobs txn) (plan_of self.now.jobs txn) (steps_done (past_of self.now) txn)
-            entries.now → ⊥ }
     {
         let job = &self.jobs()[txn as usize];
         follows(job, self.steps_done(txn), entries)

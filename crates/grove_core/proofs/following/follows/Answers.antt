@@ -9,7 +9,7 @@ pub loop-ahead-preserved : goal.loop-ahead-preserved
 loop-ahead-preserved c =
     each_more (λ (i : ℕ) (e : Entry). IsNext c.args.job.now.list c.args.job.now.plan (c.args.position + i) e) c.args.entries.now c.loop-ahead.ahead c.index-entries-ahead.result c.loop-ahead.invariant
     (slice_get_read c.args.entries.now _ c.loop-ahead.ahead c.index-entries-ahead.result refl c.loop-ahead-test.true c.index-entries-ahead.is)
-    (c.is_next.ensures.yes c.if-not-is_next.false)
+    (c.is_next.ensures.0 c.if-not-is_next.false)
 
-pub returns-clause-yes : goal.returns-clause-yes
-returns-clause-yes c = λ _. each_of (λ (i : ℕ) (e : Entry). IsNext c.args.job.now.list c.args.job.now.plan (c.args.position + i) e) c.args.entries.now c.loop-ahead.ahead c.loop-ahead-test.false c.loop-ahead.invariant
+pub returns : goal.returns
+returns c = (λ _. each_of (λ (i : ℕ) (e : Entry). IsNext c.args.job.now.list c.args.job.now.plan (c.args.position + i) e) c.args.entries.now c.loop-ahead.ahead c.loop-ahead-test.false c.loop-ahead.invariant, λ _. refl)
