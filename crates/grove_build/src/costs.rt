@@ -1,4 +1,4 @@
-use crate::seats::Seats;
+use crate::buckets::Buckets;
 use grove_span::SpanRow;
 use grove_tree::NoMemory;
 use std::alloc::Global;
@@ -13,7 +13,8 @@ pub struct Costs {
     rows: Vec<RowCost>,
     /// What the children of all rows tell, those of each row together, and the latest of them first.
     told: Vec<Fall>,
-    seats: Seats,
+    /// Where those of each row stand.
+    buckets: Buckets,
 }
 
 /// By how much a row's cost falls where its lock goes a gap later, and the last gap up to which it does.
@@ -115,11 +116,11 @@ impl Costs {
         let mut costs = costs_of(alloc, rows, needs)?;
         add_up(rows, &mut costs);
         let order = order_of(alloc, &costs, accesses)?;
-        let (told, seats) = told_of(alloc, rows, &costs, &order)?;
+        let (told, buckets) = told_of(alloc, rows, &costs, &order)?;
         Ok(Costs {
             rows: costs,
             told,
-            seats,
+            buckets,
         })
     }
 
@@ -133,7 +134,7 @@ impl Costs {
 
     /// What its children tell the row, the latest of them first.
     pub fn told(&self, k: usize) -> &[Fall] {
-        match self.told.get(self.seats.of(k)) {
+        match self.told.get(self.buckets.of(k)) {
             Some(told) => told,
             None => &[],
         }
@@ -166,46 +167,46 @@ fn add_up(rows: &[SpanRow], costs: &mut [RowCost]) {
 
 /// The rows, those first that may be locked latest.
 fn order_of(alloc: Global, costs: &[RowCost], accesses: usize) -> Result<Vec<usize>, NoMemory> {
-    let mut seats = Seats::new(alloc, accesses.saturating_add(1))?;
+    let mut buckets = Buckets::new(alloc, accesses.saturating_add(1))?;
     for cost in costs {
-        seats.count(accesses.saturating_sub(cost.fall.latest));
+        buckets.count(accesses.saturating_sub(cost.fall.latest));
     }
-    seats.begin();
+    buckets.begin();
     let mut order = vec![in alloc; 0usize; costs.len()]?;
     for (k, cost) in costs.iter().enumerate() {
-        let seat = seats.seat(accesses.saturating_sub(cost.fall.latest));
-        if let Some(place) = order.get_mut(seat) {
+        let index = buckets.index(accesses.saturating_sub(cost.fall.latest));
+        if let Some(place) = order.get_mut(index) {
             *place = k;
         }
     }
     Ok(order)
 }
 
-/// What the children of each row tell it, in this order, and where they sit.
+/// What the children of each row tell it, in this order, and the bucket of each row.
 fn told_of(
     alloc: Global,
     rows: &[SpanRow],
     costs: &[RowCost],
     order: &[usize],
-) -> Result<(Vec<Fall>, Seats), NoMemory> {
-    let mut seats = Seats::new(alloc, rows.len())?;
+) -> Result<(Vec<Fall>, Buckets), NoMemory> {
+    let mut buckets = Buckets::new(alloc, rows.len())?;
     for row in rows {
         if let Some(parent) = row.parent {
-            seats.count(parent as usize);
+            buckets.count(parent as usize);
         }
     }
-    seats.begin();
+    buckets.begin();
     let mut told = vec![in alloc; Fall::NONE; rows.len()]?;
     for k in order {
         if let Some(row) = rows.get(*k)
             && let Some(parent) = row.parent
             && let Some(cost) = costs.get(*k)
-            && let Some(place) = told.get_mut(seats.seat(parent as usize))
+            && let Some(place) = told.get_mut(buckets.index(parent as usize))
         {
             *place = cost.fall;
         }
     }
-    Ok((told, seats))
+    Ok((told, buckets))
 }
 
 fn weight_at(needs: &[i64], k: usize) -> i64 {

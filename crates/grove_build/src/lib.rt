@@ -9,6 +9,7 @@ pub use planning::{Planned, plan};
 pub use targets::{Target, targets_of};
 
 mod batch;
+mod buckets;
 mod costs;
 mod flow_rows;
 mod jobs;
@@ -19,7 +20,6 @@ mod parts;
 mod places;
 mod planning;
 mod proposing;
-mod seats;
 mod solving;
 mod stays;
 mod steps;
