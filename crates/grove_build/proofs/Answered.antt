@@ -17,6 +17,7 @@ use Rattle.grove_access.specs.Forced.{is_forced, forced_nodes}
 use Rattle.grove_plan.specs.declared.step.Step.{Step}
 use Rattle.grove_plan.specs.declared.step.Step.TheVariants.{Lock, Unlock, Access}
 use Rattle.grove_plan.specs.Plans.{cost}
+use Rattle.grove_proof.specs.declared.flow.FlowRow.{FlowRow}
 use Rattle.grove_proof.specs.Flows.{IsCertificate}
 use Rattle.grove_span.specs.declared.row.SpanRow.{SpanRow}
 use Rattle.grove_span.specs.SpanRows.{node_of_row, find_place}
@@ -25,7 +26,7 @@ use Rattle.grove_build.specs.declared.stays.Stay.{Stay}
 use Rattle.grove_build.specs.declared.steps.Group.TheVariants.{Early, Locks, Late}
 use Rattle.grove_build.specs.Layout.{has_child_in, is_early, gap_steps, steps_below, laid_out}
 use Rattle.grove_build.specs.Settled.{IsSettled}
-use Rattle.grove_build.specs.Networks.{IsSpan, IsSolved, AreSlots, weights_of, row_width, read_rows}
+use Rattle.grove_build.specs.Networks.{IsSpan, IsSolved, IsRead, AreSlots, weights_of}
 use Rattle.grove_build.specs.Stays.{has_parent_at, is_needed, is_early_at, stay_of, stays_from, step_in, stay_steps, stay_steps_below, rows_cost, AreWithin}
 use Rattle.grove_build.proofs.Runs.{Has}
 use Rattle.grove_build.proofs.Laying.{any_has}
@@ -179,7 +180,7 @@ module _ (tree : Rows) (nodes lengths : List ℕ) (rows : List SpanRow) (amounts
     where
       parent_here : (j : ℕ) (over : SpanRow) → slice_get rows j ≡ Some over → (i : ℕ) (r : SpanRow)
           → slice_get rows i ≡ Some r → is_at j r.parent ≡ is_at over.node (parent_of tree r.node)
-      parent_here = parent_at tree nodes lengths rows amounts solved.solved is_span solved.solution
+      parent_here = parent_at tree nodes lengths rows is_span
 
   module _ (needed : List Bool) (marked : (j : ℕ) → j < length rows
       → get_or needed j false ≡ is_needed rows gaps (length rows) j) where
@@ -304,10 +305,6 @@ steps_few stays m few short =
     let b : length (stay_steps stays m) ≤ 12288 = gap_few stays m few in
     omega (arith, length-append (stay_steps_below stays m) (stay_steps stays m))
 
-pub read_length : (rows : List SpanRow) (amounts : List ℕ) (at : ℕ) → length (read_rows rows amounts at) ≡ length rows
-read_length [] amounts at = refl
-read_length (row ∷ rows) amounts at = ap suc (read_length rows amounts (at + row_width row))
-
 module _ (tree : Rows) (nodes lengths : List ℕ) (rows : List SpanRow) (amounts gaps : List ℕ)
     (is_span : IsSpan tree nodes lengths rows) (solved : IsSolved tree lengths (length nodes) rows amounts gaps)
     (short : length nodes ≤ 64) where
@@ -329,11 +326,11 @@ module _ (tree : Rows) (nodes lengths : List ℕ) (rows : List SpanRow) (amounts
       subst P e ((lock_gap tree nodes lengths rows amounts gaps is_span solved i lt).0, (release_gap tree nodes lengths rows amounts gaps is_span solved i lt).0))
 
   -- no node is released before it is locked
-  pub gaps_fit : (slots : List ℕ) → AreSlots lengths (length nodes) slots → (k : ℕ) → k < length rows
+  pub gaps_fit : (flow : List FlowRow) → IsRead rows amounts flow → (slots : List ℕ) → AreSlots lengths (length nodes) slots → (k : ℕ) → k < length rows
       → slice_index slots (slice_index gaps (2 * k)) ≤ slice_index slots (slice_index gaps (2 * k + 1))
-  gaps_fit slots are_slots k lt =
+  gaps_fit flow read slots are_slots k lt =
       let r = get_within rows k lt in
-      let fits = latest_fits tree nodes lengths rows amounts is_span solved.places solved.latest
+      let fits = latest_fits tree nodes lengths rows is_span amounts solved.places solved.latest flow read
       (lock tree nodes lengths rows amounts gaps is_span solved) (release tree nodes lengths rows amounts gaps is_span solved)
       (low tree nodes lengths rows amounts gaps is_span solved) (locks tree nodes lengths rows amounts gaps is_span solved) (releases tree nodes lengths rows amounts gaps is_span solved) in
       let own : lock tree nodes lengths rows amounts gaps is_span solved (r.0).node
@@ -351,7 +348,7 @@ module _ (tree : Rows) (nodes lengths : List ℕ) (rows : List SpanRow) (amounts
         are_slots.each (slice_index gaps (2 * k + 1)) (release_gap tree nodes lengths rows amounts gaps is_span solved k lt).0,
       )
 
-  module _ (limits : IsWithinLimits tree) (needed : List Bool)
+  module _ (limits : IsWithinLimits tree) (flow : List FlowRow) (read : IsRead rows amounts flow) (needed : List Bool)
       (marked : (j : ℕ) → j < length rows → get_or needed j false ≡ is_needed rows gaps (length rows) j) where
     abbrev pub steps : List Step
     steps = stay_steps_below (stays_from gaps needed 0 rows) (length nodes)
@@ -364,15 +361,15 @@ module _ (tree : Rows) (nodes lengths : List ℕ) (rows : List SpanRow) (amounts
     pub steps_settle : IsSettled tree nodes lengths steps
     steps_settle =
         let P : List Step → Type 0 = λ p. IsSettled tree nodes lengths p in
-        subst P (sym laid) (settles tree nodes lengths rows amounts solved.solved is_span limits solved.solution solved.places
+        subst P (sym laid) (settles tree nodes lengths rows amounts flow is_span limits read solved.solved solved.solution solved.places
         solved.latest
         (lock tree nodes lengths rows amounts gaps is_span solved) (release tree nodes lengths rows amounts gaps is_span solved)
         (low tree nodes lengths rows amounts gaps is_span solved) (locks tree nodes lengths rows amounts gaps is_span solved) (releases tree nodes lengths rows amounts gaps is_span solved))
 
-    pub steps_certified : IsCertificate tree nodes lengths (read_rows rows amounts 0) (cost tree lengths steps)
+    pub steps_certified : IsCertificate tree nodes lengths flow (cost tree lengths steps)
     steps_certified =
-        let P : List Step → Type 0 = λ p. IsCertificate tree nodes lengths (read_rows rows amounts 0) (cost tree lengths p) in
-        subst P (sym laid) (certifies tree nodes lengths rows amounts solved.solved is_span limits solved.solution
+        let P : List Step → Type 0 = λ p. IsCertificate tree nodes lengths flow (cost tree lengths p) in
+        subst P (sym laid) (certifies tree nodes lengths rows amounts flow is_span limits read solved.solved solved.solution
         solved.places solved.latest
         (lock tree nodes lengths rows amounts gaps is_span solved) (release tree nodes lengths rows amounts gaps is_span solved)
         (low tree nodes lengths rows amounts gaps is_span solved) (locks tree nodes lengths rows amounts gaps is_span solved) (releases tree nodes lengths rows amounts gaps is_span solved))
@@ -381,7 +378,7 @@ module _ (tree : Rows) (nodes lengths : List ℕ) (rows : List SpanRow) (amounts
         → rows_cost (weights_of tree rows) slots gaps (length rows) ≡ cost tree lengths steps
     steps_cost slots are_slots =
         costs_same tree nodes lengths rows amounts gaps is_span solved slots are_slots
-        ∙ (sym (costs tree nodes lengths rows amounts solved.solved is_span limits solved.solution solved.places solved.latest
+        ∙ (sym (costs tree nodes lengths rows amounts flow is_span limits read solved.solved solved.solution solved.places solved.latest
         (lock tree nodes lengths rows amounts gaps is_span solved) (release tree nodes lengths rows amounts gaps is_span solved)
         (low tree nodes lengths rows amounts gaps is_span solved) (locks tree nodes lengths rows amounts gaps is_span solved) (releases tree nodes lengths rows amounts gaps is_span solved))
         ∙ ap (λ p. cost tree lengths p) (sym laid))

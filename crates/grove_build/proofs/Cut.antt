@@ -1,123 +1,125 @@
--- Lawful places stay lawful where a rising function that keeps the slots between accesses is put on each.
-use Rattle.std.proofs.Common.{◌≡◌, ℕ, zero, suc, ◌+◌, ◌*◌, ◌≤◌, ◌⊎◌, true, false, List, [], ◌∷◌, map, Some, ℤ, pos, neg_ℤ, ◌+ℤ◌, ◌≤ℤ◌, ◌<ℤ◌, int_lt, int_le, if◌then◌else◌, refl, sym, ◌∙◌, ap, subst, inl, inr, arith}
-use Rattle.std.specs.List.{slice_get}
+-- What an arc asks of the places, and that it stays lawful where a rising function that keeps the slots between accesses
+-- is put on each place.
+use Rattle.std.proofs.Common.{◌≡◌, ℕ, zero, suc, ◌+◌, ◌*◌, ◌<◌, ◌≤◌, ◌⊎◌, true, false, List, [], ◌∷◌, map, Some, ℤ, pos, neg_ℤ, ◌+ℤ◌, ◌≤ℤ◌, ◌<ℤ◌, int_lt, int_le, if◌then◌else◌, refl, sym, ◌∙◌, ap, subst, inl, inr, arith}
 use Rattle.std.proofs.lemmas.Int.{ints}
 use Rattle.std.proofs.lemmas.Bool.{cases_Bool, cases_order, cond-true, cond-false}
-use Rattle.grove_proof.specs.declared.flow.FlowRow.{FlowRow}
 use Rattle.grove_span.specs.declared.row.SpanRow.{SpanRow}
 use Rattle.grove_flow.specs.Networks.{place, IsLawful}
-use Rattle.grove_build.specs.Networks.{arc, lowered}
-use Rattle.grove_build.proofs.Lawful.{AreRowsLawful}
+use Rattle.grove_build.specs.declared.kinds.Kind.{Kind}
+use Rattle.grove_build.specs.declared.kinds.Kind.TheVariants.{Above, Held, First, Last, Own}
+use Rattle.grove_build.specs.Networks.{bound, arc_to, lowered}
+
+-- What an arc of the row at place k asks: one place, or number of slots, is no later than another.
+
+abbrev pub early : List ℤ → ℕ → Kind → ℕ → ℤ
+early places k Above parent = place places (2 * parent)
+early places k Held parent = place places (2 * k)
+early places k First from = place places (2 * k)
+early places k Last until = pos until
+early places k Own none = place places (2 * k)
+
+abbrev pub late : List ℤ → ℕ → Kind → ℕ → ℤ
+late places k Above parent = place places (2 * k)
+late places k Held parent = place places (2 * parent + 1)
+late places k First from = pos from
+late places k Last until = place places (2 * k + 1)
+late places k Own none = place places (2 * k + 1)
+
+-- the one is no later than the other, and at the same place where an amount is sent
+pub record Meets (amount : ℕ) (low high : ℤ) : Type 0 where
+  pub met : low ≤ℤ high
+  pub tight : 0 < amount → low ≡ high
+
+level_difference : (x y : ℤ) → (x +ℤ pos 0) +ℤ y ≡ y +ℤ x
+level_difference x y = omega (arith, ints)
+
+before_difference : (x b : ℤ) (f : ℕ) → b ≡ pos 0 → (x +ℤ neg_ℤ (pos f)) +ℤ pos f ≡ b +ℤ x
+before_difference x b f e = omega (arith, ints)
+
+after_difference : (b y : ℤ) (l : ℕ) → b ≡ pos 0 → (b +ℤ pos l) +ℤ y ≡ y +ℤ pos l
+after_difference b y l e = omega (arith, ints)
+
+-- both differ by as much as the ends of the arc with what it asks for
+same_difference : (base k : ℕ) (places : List ℤ) → place places base ≡ pos 0 → (kind : Kind) (x : ℕ)
+    → (place places (arc_to base k kind x).from +ℤ (arc_to base k kind x).least) +ℤ late places k kind x
+    ≡ place places (arc_to base k kind x).to +ℤ early places k kind x
+same_difference base k places zero_base Above x = level_difference (place places (2 * x)) (place places (2 * k))
+same_difference base k places zero_base Held x = level_difference (place places (2 * k)) (place places (2 * x + 1))
+same_difference base k places zero_base First x = before_difference (place places (2 * k)) (place places base) x zero_base
+same_difference base k places zero_base Last x = after_difference (place places base) (place places (2 * k + 1)) x zero_base
+same_difference base k places zero_base Own x = level_difference (place places (2 * k)) (place places (2 * k + 1))
+
+le_across : (a b low high : ℤ) → a +ℤ high ≡ b +ℤ low → a ≤ℤ b → low ≤ℤ high
+le_across a b low high e h = omega (arith, ints)
+
+same_across : (a b low high : ℤ) → a +ℤ high ≡ b +ℤ low → a ≡ b → low ≡ high
+same_across a b low high e h = omega (arith, ints)
+
+le_back : (a b low high : ℤ) → a +ℤ high ≡ b +ℤ low → low ≤ℤ high → a ≤ℤ b
+le_back a b low high e h = omega (arith, ints)
+
+same_back : (a b low high : ℤ) → a +ℤ high ≡ b +ℤ low → low ≡ high → a ≡ b
+same_back a b low high e h = omega (arith, ints)
+
+module _ (base k : ℕ) (places : List ℤ) (zero_base : place places base ≡ pos 0) (kind : Kind) (x amount : ℕ) where
+  pub lawful_meets : IsLawful (arc_to base k kind x) amount places → Meets amount (early places k kind x) (late places k kind x)
+  lawful_meets h = record {
+    met = le_across _ _ _ _ (same_difference base k places zero_base kind x) h.met;
+    tight = λ some. same_across _ _ _ _ (same_difference base k places zero_base kind x) (h.tight some);
+  }
+
+  pub meets_lawful : Meets amount (early places k kind x) (late places k kind x) → IsLawful (arc_to base k kind x) amount places
+  meets_lawful h = record {
+    met = le_back _ _ _ _ (same_difference base k places zero_base kind x) h.met;
+    tight = λ some. same_back _ _ _ _ (same_difference base k places zero_base kind x) (h.tight some);
+  }
 
 -- the slots that bound a row are among some
 pub record IsRowOn (on : ℕ → Type 0) (row : SpanRow) : Type 0 where
   pub first : (f : ℕ) → row.from ≡ Some f → on f
   pub last : (l : ℕ) → row.until ≡ Some l → on l
 
-abbrev pub AreRowsOn : (ℕ → Type 0) → List SpanRow → Type 0
-AreRowsOn on rows = (i : ℕ) (row : SpanRow) → slice_get rows i ≡ Some row → IsRowOn on row
-
 pub place_map : (f : ℤ → ℤ) (places : List ℤ) (v : ℕ) → f (pos 0) ≡ pos 0 → place (map f places) v ≡ f (place places v)
 place_map f [] v e = sym e
 place_map f (x ∷ xs) zero e = refl
 place_map f (x ∷ xs) (suc v) e = place_map f xs v e
-
-level_met : (x y : ℤ) → (x +ℤ pos 0) ≤ℤ y → x ≤ℤ y
-level_met x y h = omega (arith, ints)
-
-level_tight : (x y : ℤ) → x +ℤ pos 0 ≡ y → x ≡ y
-level_tight x y h = omega (arith, ints)
-
-level_from : (x y x2 y2 : ℤ) → x2 ≡ x → y2 ≡ y → x ≤ℤ y → (x2 +ℤ pos 0) ≤ℤ y2
-level_from x y x2 y2 a b h = omega (arith, ints)
-
-level_back : (x y x2 y2 : ℤ) → x2 ≡ x → y2 ≡ y → x ≡ y → x2 +ℤ pos 0 ≡ y2
-level_back x y x2 y2 a b h = omega (arith, ints)
-
-before_met : (x b : ℤ) (f : ℕ) → b ≡ pos 0 → (x +ℤ neg_ℤ (pos f)) ≤ℤ b → x ≤ℤ pos f
-before_met x b f e h = omega (arith, ints)
-
-before_tight : (x b : ℤ) (f : ℕ) → b ≡ pos 0 → x +ℤ neg_ℤ (pos f) ≡ b → x ≡ pos f
-before_tight x b f e h = omega (arith, ints)
-
-before_from : (x x2 b : ℤ) (f : ℕ) → x2 ≡ x → b ≡ pos 0 → x ≤ℤ pos f → (x2 +ℤ neg_ℤ (pos f)) ≤ℤ b
-before_from x x2 b f a e h = omega (arith, ints)
-
-before_back : (x x2 b : ℤ) (f : ℕ) → x2 ≡ x → b ≡ pos 0 → x ≡ pos f → x2 +ℤ neg_ℤ (pos f) ≡ b
-before_back x x2 b f a e h = omega (arith, ints)
-
-after_met : (b y : ℤ) (l : ℕ) → b ≡ pos 0 → (b +ℤ pos l) ≤ℤ y → pos l ≤ℤ y
-after_met b y l e h = omega (arith, ints)
-
-after_tight : (b y : ℤ) (l : ℕ) → b ≡ pos 0 → b +ℤ pos l ≡ y → pos l ≡ y
-after_tight b y l e h = omega (arith, ints)
-
-after_from : (b y y2 : ℤ) (l : ℕ) → b ≡ pos 0 → y2 ≡ y → pos l ≤ℤ y → (b +ℤ pos l) ≤ℤ y2
-after_from b y y2 l e a h = omega (arith, ints)
-
-after_back : (b y y2 : ℤ) (l : ℕ) → b ≡ pos 0 → y2 ≡ y → pos l ≡ y → b +ℤ pos l ≡ y2
-after_back b y y2 l e a h = omega (arith, ints)
 
 module _ (f : ℤ → ℤ) (on : ℕ → Type 0) (rising : (a b : ℤ) → a ≤ℤ b → f a ≤ℤ f b)
     (keeps : (a : ℕ) → on a → f (pos a) ≡ pos a) (zero_on : on 0) (places : List ℤ) where
   at : (v : ℕ) → place (map f places) v ≡ f (place places v)
   at v = place_map f places v (keeps 0 zero_on)
 
-  level : (from to amount : ℕ) → IsLawful (arc from to (pos 0)) amount places
-      → IsLawful (arc from to (pos 0)) amount (map f places)
-  level from to amount h = record {
-    met = level_from (f (place places from)) (f (place places to)) (place (map f places) from)
-        (place (map f places) to) (at from) (at to)
-        (rising (place places from) (place places to) (level_met (place places from) (place places to) h.met));
-    tight = λ some. level_back (f (place places from)) (f (place places to)) (place (map f places) from)
-        (place (map f places) to) (at from) (at to)
-        (ap f (level_tight (place places from) (place places to) (h.tight some)));
-  }
+  early_cut : (k : ℕ) (row : SpanRow) → IsRowOn on row → (kind : Kind) (x : ℕ) → bound row kind ≡ Some x
+      → f (early places k kind x) ≡ early (map f places) k kind x
+  early_cut k row row_on Above x e = sym (at (2 * x))
+  early_cut k row row_on Held x e = sym (at (2 * k))
+  early_cut k row row_on First x e = sym (at (2 * k))
+  early_cut k row row_on Last x e = keeps x (row_on.last x e)
+  early_cut k row row_on Own x e = sym (at (2 * k))
+
+  late_cut : (k : ℕ) (row : SpanRow) → IsRowOn on row → (kind : Kind) (x : ℕ) → bound row kind ≡ Some x
+      → f (late places k kind x) ≡ late (map f places) k kind x
+  late_cut k row row_on Above x e = sym (at (2 * k))
+  late_cut k row row_on Held x e = sym (at (2 * x + 1))
+  late_cut k row row_on First x e = keeps x (row_on.first x e)
+  late_cut k row row_on Last x e = sym (at (2 * k + 1))
+  late_cut k row row_on Own x e = sym (at (2 * k + 1))
 
   module _ (base : ℕ) (at_base : place places base ≡ pos 0) where
     pub base_stays : place (map f places) base ≡ pos 0
     base_stays = at base ∙ (ap f at_base ∙ keeps 0 zero_on)
 
-    before : (from amount x : ℕ) → on x → IsLawful (arc from base (neg_ℤ (pos x))) amount places
-        → IsLawful (arc from base (neg_ℤ (pos x))) amount (map f places)
-    before from amount x le h = record {
-      met =
-          let r : f (place places from) ≤ℤ f (pos x) =
-          rising (place places from) (pos x) (before_met (place places from) (place places base) x at_base h.met) in
-          let P : ℤ → Type 0 = λ z. f (place places from) ≤ℤ z in
-          before_from (f (place places from)) (place (map f places) from) (place (map f places) base) x (at from)
-          base_stays (subst P (keeps x le) r);
-      tight = λ some.
-          before_back (f (place places from)) (place (map f places) from) (place (map f places) base) x (at from)
-          base_stays
-          (ap f (before_tight (place places from) (place places base) x at_base (h.tight some)) ∙ keeps x le);
-    }
-
-    after : (to amount x : ℕ) → on x → IsLawful (arc base to (pos x)) amount places
-        → IsLawful (arc base to (pos x)) amount (map f places)
-    after to amount x le h = record {
-      met =
-          let r : f (pos x) ≤ℤ f (place places to) =
-          rising (pos x) (place places to) (after_met (place places base) (place places to) x at_base h.met) in
-          let P : ℤ → Type 0 = λ z. z ≤ℤ f (place places to) in
-          after_from (place (map f places) base) (f (place places to)) (place (map f places) to) x base_stays (at to)
-          (subst P (keeps x le) r);
-      tight = λ some.
-          after_back (place (map f places) base) (f (place places to)) (place (map f places) to) x base_stays (at to)
-          (sym (keeps x le) ∙ ap f (after_tight (place places base) (place places to) x at_base (h.tight some)));
-    }
-
-    -- the rows stay lawful
-    pub rows_cut : (rows : List SpanRow) (flow : List FlowRow) → AreRowsOn on rows
-        → AreRowsLawful base 0 rows flow places → AreRowsLawful base 0 rows flow (map f places)
-    rows_cut rows flow low h i row amounts g1 g2 =
-        let r = h i row amounts g1 g2 in
-        record {
-          above = λ j e. level (2 * j) (2 * (0 + i)) amounts.above (r.above j e);
-          held = λ j e. level (2 * (0 + i)) (2 * j + 1) amounts.held (r.held j e);
-          first = λ x e. before (2 * (0 + i)) amounts.first x ((low i row g1).first x e) (r.first x e);
-          last = λ x e. after (2 * (0 + i) + 1) amounts.last x ((low i row g1).last x e) (r.last x e);
-          own = level (2 * (0 + i)) (2 * (0 + i) + 1) amounts.own r.own;
+    -- an arc stays lawful
+    pub arc_cut : (k : ℕ) (row : SpanRow) → IsRowOn on row → (kind : Kind) (x : ℕ) → bound row kind ≡ Some x → (amount : ℕ)
+        → IsLawful (arc_to base k kind x) amount places → IsLawful (arc_to base k kind x) amount (map f places)
+    arc_cut k row row_on kind x e amount h =
+        let m = lawful_meets base k places at_base kind x amount h in
+        let low = early_cut k row row_on kind x e in
+        let high = late_cut k row row_on kind x e in
+        meets_lawful base k (map f places) base_stays kind x amount record {
+          met = subst (λ z. z ≤ℤ late (map f places) k kind x) low (subst (λ z. f (early places k kind x) ≤ℤ z) high
+              (rising (early places k kind x) (late places k kind x) m.met));
+          tight = λ some. sym low ∙ (ap f (m.tight some) ∙ high);
         }
 
 -- the two functions: what is above the top is lowered to it, and what is between two slots is raised to the later one

@@ -1,5 +1,5 @@
 -- The rows of a span: what they say of the tree and the list, and the rows of the flow beside them.
-use Rattle.std.proofs.Common.{◌≡◌, ℕ, zero, suc, ◌+◌, ◌<◌, ◌≤◌, Bool, true, false, cond, List, [], ◌∷◌, length, Option, Some, None, refl, sym, ◌∙◌, ap, subst, inl, inr, arith, eqb, eqb-true, eq-eqb}
+use Rattle.std.proofs.Common.{◌≡◌, ℕ, zero, suc, ◌<◌, ◌≤◌, Bool, true, false, cond, List, [], ◌∷◌, length, Option, Some, None, refl, sym, ◌∙◌, ap, subst, inl, inr, arith, eqb, eqb-true, eq-eqb}
 use Rattle.std.specs.List.{slice_get}
 use Rattle.std.specs.Option.{option_map, option_and_then}
 use Rattle.std.proofs.lemmas.Option.{none-some, same_Some, cond_some, option_and_then_some, slice_get_within}
@@ -11,10 +11,9 @@ use Rattle.grove_tree.proofs.Tests.{is_at_from}
 use Rattle.grove_access.specs.Slots.{slots_before}
 use Rattle.grove_access.specs.Forced.{IsForcedByTree, forced_nodes, names_at, is_accessed, first_access, last_end}
 use Rattle.grove_access.proofs.ForcedByTree.{forced_listed, listed_forced}
-use Rattle.grove_proof.specs.declared.flow.FlowRow.{FlowRow}
 use Rattle.grove_span.specs.declared.row.SpanRow.{SpanRow}
 use Rattle.grove_span.specs.SpanRows.{node_of_row, find_place, parent_place, from_of, until_of}
-use Rattle.grove_build.specs.Networks.{IsSpan, row_width, read_row, read_rows}
+use Rattle.grove_build.specs.Networks.{IsSpan}
 use Rattle.grove_base.specs.Numbers.{last_below}
 
 -- a number that passes lies before the last place
@@ -54,23 +53,6 @@ place_there v [] i h = absurd (none-some v h)
 place_there v (x ∷ xs) zero h =
     place_here (eqb x v) (find_place v xs) (λ e. absurd (both_ways (eqb x v) e (eq-eqb x v (same_Some x v h))))
 place_there v (x ∷ xs) (suc i) h = place_here (eqb x v) (find_place v xs) (λ e. place_there v xs i h)
-
--- what stands at a place of a flow read back
-
--- the flow's row at a place is that of the span's row there
-pub flow_at : (rows : List SpanRow) (amounts : List ℕ) (at k : ℕ) (row : SpanRow) → slice_get rows k ≡ Some row
-    → (f : FlowRow) × (slice_get (read_rows rows amounts at) k ≡ Some f) × (f.node ≡ row.node)
-flow_at [] amounts at k row h = absurd (none-some row h)
-flow_at (r ∷ rows) amounts at zero row h = (read_row r amounts at, refl, ap node_of_row (same_Some r row h))
-flow_at (r ∷ rows) amounts at (suc k) row h = flow_at rows amounts (at + row_width r) k row h
-
-pub row_at : (rows : List SpanRow) (amounts : List ℕ) (at k : ℕ) (f : FlowRow)
-    → slice_get (read_rows rows amounts at) k ≡ Some f
-    → (row : SpanRow) × (slice_get rows k ≡ Some row) × (f.node ≡ row.node)
-row_at [] amounts at k f h = absurd (none-some f h)
-row_at (r ∷ rows) amounts at zero f h =
-    (r, refl, ap (λ (x : FlowRow). x.node) (sym (same_Some (read_row r amounts at) f h)))
-row_at (r ∷ rows) amounts at (suc k) f h = row_at rows amounts (at + row_width r) k f h
 
 -- a node's own accesses
 

@@ -4,15 +4,15 @@ pub mod Fitting
 pub mod Laying
 pub mod Alike
 pub mod Once
-pub mod Lawful
+pub mod Batched
+pub mod Pairs
+pub mod Links
 pub mod Found
 pub mod Cut
 pub mod Candidates
 pub mod Latest
 pub mod Cheap
 pub mod Settling
-pub mod Sums
-pub mod Named
 pub mod Needs
 pub mod Settles
 pub mod Walks
@@ -20,7 +20,6 @@ pub mod Asked
 pub mod Answered
 pub mod Inserted
 pub mod TargetLists
-pub mod Batched
 pub mod Reaching
 pub mod Pushes
 pub mod Keeping

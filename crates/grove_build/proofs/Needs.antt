@@ -1,24 +1,27 @@
 -- Amounts that meet the needs of the network balance the flow's rows.
-use Rattle.std.proofs.Common.{◌≡◌, ℕ, zero, suc, ◌+◌, ◌*◌, ◌<◌, Bool, true, false, cond, eqb, List, [], ◌∷◌, length, Option, Some, None, ℤ, pos, neg_ℤ, ◌+ℤ◌, refl, sym, ◌∙◌, ap, ap₂, subst, arith, eqb-true, eq-eqb, ne_eqb}
-use Rattle.std.specs.Prelude.{slice_index}
-use Rattle.std.specs.List.{slice_get}
+use Rattle.std.proofs.Common.{◌≡◌, ℕ, ◌+◌, ◌*◌, ◌<◌, Bool, true, false, cond, eqb, List, length, Option, Some, None, ℤ, pos, neg_ℤ, ◌+ℤ◌, refl, sym, ◌∙◌, ap, ap₂, subst, arith, eqb-true, eq-eqb, ne_eqb}
+use Rattle.std.specs.List.{slice_get, sum_by}
 use Rattle.std.proofs.lemmas.Int.{ints}
-use Rattle.std.proofs.lemmas.Option.{none-some, same_Some, slice_get_within}
+use Rattle.std.proofs.lemmas.Option.{same_Some, slice_get_within}
 use Rattle.grove_tree.specs.Trees.{Rows, parent_of, weight_of, is_at}
 use Rattle.grove_base.proofs.Counting.{passing_once, same_tests}
-use Rattle.grove_base.proofs.Lists.{get_map}
+use Rattle.grove_base.proofs.Lists.{get_map, map_length}
 use Rattle.grove_tree.proofs.Tests.{is_at_true, is_at_from}
 use Rattle.grove_access.specs.Forced.{is_forced}
 use Rattle.grove_proof.specs.declared.flow.FlowRow.{FlowRow}
-use Rattle.grove_proof.specs.Flows.{child_sum, is_lock_balanced, is_release_balanced}
+use Rattle.grove_proof.specs.Flows.{is_child, child_sum, is_lock_balanced, is_release_balanced}
+use Rattle.grove_proof.proofs.Sums.{sums_add, sums_one, sums_zero}
 use Rattle.grove_span.specs.declared.row.SpanRow.{SpanRow}
 use Rattle.grove_span.specs.SpanRows.{node_of_row}
 use Rattle.grove_flow.specs.declared.network.Arc.{Arc}
 use Rattle.grove_flow.specs.Networks.{place}
 use Rattle.grove_flow.specs.Flows.{amount_in, amount_out, IsSolution}
-use Rattle.grove_build.specs.Networks.{IsSpan, arcs_from, needs_of, width, amount_if, read_row, read_rows}
+use Rattle.grove_build.specs.declared.kinds.Kind.TheVariants.{Above, Held, First, Last, Own}
+use Rattle.grove_build.specs.Networks.{IsSpan, IsReadRow, IsRead, arc_to, amount_of, arcs_from, needs_of, weights_of}
+use Rattle.grove_build.proofs.Batched.{some_right}
 use Rattle.grove_build.proofs.Found.{row_spanned, parent_found, parent_known}
-use Rattle.grove_build.proofs.Sums.{at_place, cond_zero, first_sent, last_sent, of_children, pair_add, pair_children, pair_one, pair_same, pair_sum, pair_zero, parent_sent, row_sent, rows_part, sent_is}
+use Rattle.grove_build.proofs.Links.{Link, worth, row_sum, sent_rows}
+use Rattle.grove_build.proofs.Pairs.{pairs_lock, pairs_release, pairs_size}
 
 -- Even and odd variables.
 
@@ -41,186 +44,43 @@ even_odd a b = ne_eqb (2 * a) (2 * b + 1) (λ e. omega arith)
 even_less : (a b : ℕ) → b < a → eqb (2 * a) (2 * b) ≡ false
 even_less a b lt = ne_eqb (2 * a) (2 * b) (λ e. omega arith)
 
-told : (b c : Bool) (x : ℕ) → b ≡ c → cond b x 0 ≡ cond c x 0
-told b c x e = ap (λ t. cond t x 0) e
+-- what an arc adds that passes a test, or doesn't
 
--- what each row sends into and out of the lock and the release at place j
+cond_zero : (b : Bool) → ◌≡◌ {A = ℕ} (cond b 0 0) 0
+cond_zero true = refl
+cond_zero false = refl
 
-module _ (n j : ℕ) (lt : j < n) (amounts : List ℕ) where
-  in_lock_parent : (k : ℕ) (o : Option ℕ) (above held : ℕ) → (o ≡ None → above ≡ 0)
-      → parent_sent (λ a. eqb a.to (2 * j)) k o above held ≡ cond (eqb k j) above 0
-  in_lock_parent k None above held none = let e : above ≡ 0 = none refl in
-      sym (ap (λ x. cond (eqb k j) x 0) e ∙ cond_zero (eqb k j))
-  in_lock_parent k (Some p) above held none =
-      let a : cond (eqb (2 * k) (2 * j)) above 0 ≡ cond (eqb k j) above 0 =
-      told (eqb (2 * k) (2 * j)) (eqb k j) above (even_test k j) in
-      let b : cond (eqb (2 * p + 1) (2 * j)) held 0 ≡ cond false held 0 =
-      told (eqb (2 * p + 1) (2 * j)) false held (odd_even p j) in
-      omega arith
+one_end : (o : Option ℕ) (test : ℕ → Bool) (b : Bool) (amount : ℕ) → (o ≡ None → amount ≡ 0) → ((x : ℕ) → test x ≡ b)
+    → worth o (λ x. cond (test x) amount 0) ≡ cond b amount 0
+one_end None test b amount none same = sym (ap (λ n. cond b n 0) (none refl) ∙ cond_zero b)
+one_end (Some x) test b amount none same = ap (λ t. cond t amount 0) (same x)
 
-  in_lock_first : (k : ℕ) (o : Option ℕ) (x : ℕ) → first_sent (λ a. eqb a.to (2 * j)) (2 * n) k o x ≡ 0
-  in_lock_first k None x = refl
-  in_lock_first k (Some f) x = told (eqb (2 * n) (2 * j)) false x (even_less n j lt)
-
-  in_lock_last : (k : ℕ) (o : Option ℕ) (x : ℕ) → last_sent (λ a. eqb a.to (2 * j)) (2 * n) k o x ≡ 0
-  in_lock_last k None x = refl
-  in_lock_last k (Some f) x = told (eqb (2 * k + 1) (2 * j)) false x (odd_even k j)
-
-  absent : (o : Option ℕ) (at : ℕ) → o ≡ None → amount_if o amounts at ≡ 0
-  absent None at e = refl
-  absent (Some x) at e = absurd (none-some x (sym e))
-
-  in_lock_row : (k at : ℕ) (row : SpanRow)
-      → row_sent (λ a. eqb a.to (2 * j)) (2 * n) k row (read_row row amounts at)
-      ≡ at_place j (λ f. f.above) k row (read_row row amounts at)
-  in_lock_row k at row =
-      let f : FlowRow = read_row row amounts at in
-      let a = in_lock_parent k row.parent (amount_if row.parent amounts at) (amount_if row.parent amounts (at + 1))
-      (absent row.parent at) in
-      let b = in_lock_first k row.from (amount_if row.from amounts (at + width row.parent + width row.parent)) in
-      let c = in_lock_last k row.until (amount_if row.until amounts
-      (at + width row.parent + width row.parent + width row.from)) in
-      let own : ℕ = slice_index amounts (at + width row.parent + width row.parent + width row.from + width row.until) in
-      let d = told (eqb (2 * k + 1) (2 * j)) false
-      (slice_index amounts (at + width row.parent + width row.parent + width row.from + width row.until))
-      (odd_even k j) in
-      omega arith
-
-  out_lock_parent : (k : ℕ) (o : Option ℕ) (above held : ℕ) → (o ≡ None → held ≡ 0)
-      → parent_sent (λ a. eqb a.from (2 * j)) k o above held ≡ cond (is_at j o) above 0 + cond (eqb k j) held 0
-  out_lock_parent k None above held none =
-      let e : held ≡ 0 = none refl in
-      let z : cond (eqb k j) held 0 ≡ 0 = ap (λ x. cond (eqb k j) x 0) e ∙ cond_zero (eqb k j) in omega arith
-  out_lock_parent k (Some p) above held none =
-      let a : cond (eqb (2 * p) (2 * j)) above 0 ≡ cond (eqb p j) above 0 =
-      told (eqb (2 * p) (2 * j)) (eqb p j) above (even_test p j) in
-      let b : cond (eqb (2 * k) (2 * j)) held 0 ≡ cond (eqb k j) held 0 =
-      told (eqb (2 * k) (2 * j)) (eqb k j) held (even_test k j) in
-      omega arith
-
-  out_lock_first : (k : ℕ) (o : Option ℕ) (x : ℕ) → (o ≡ None → x ≡ 0)
-      → first_sent (λ a. eqb a.from (2 * j)) (2 * n) k o x ≡ cond (eqb k j) x 0
-  out_lock_first k None x none = sym (ap (λ y. cond (eqb k j) y 0) (none refl) ∙ cond_zero (eqb k j))
-  out_lock_first k (Some f) x none = told (eqb (2 * k) (2 * j)) (eqb k j) x (even_test k j)
-
-  out_lock_last : (k : ℕ) (o : Option ℕ) (x : ℕ) → last_sent (λ a. eqb a.from (2 * j)) (2 * n) k o x ≡ 0
-  out_lock_last k None x = refl
-  out_lock_last k (Some f) x = told (eqb (2 * n) (2 * j)) false x (even_less n j lt)
-
-  abbrev out_lock_sum : ℕ → SpanRow → FlowRow → ℕ
-  out_lock_sum k row f = ((of_children j (λ g. g.above) k row f + at_place j (λ g. g.held) k row f)
-      + at_place j (λ g. g.first) k row f) + at_place j (λ g. g.own) k row f
-
-  out_lock_row : (k at : ℕ) (row : SpanRow)
-      → row_sent (λ a. eqb a.from (2 * j)) (2 * n) k row (read_row row amounts at)
-      ≡ out_lock_sum k row (read_row row amounts at)
-  out_lock_row k at row =
-      let a = out_lock_parent k row.parent (amount_if row.parent amounts at) (amount_if row.parent amounts (at + 1))
-      (absent row.parent (at + 1)) in
-      let b = out_lock_first k row.from (amount_if row.from amounts (at + width row.parent + width row.parent))
-      (absent row.from (at + width row.parent + width row.parent)) in
-      let c = out_lock_last k row.until
-      (amount_if row.until amounts (at + width row.parent + width row.parent + width row.from)) in
-      let d = told (eqb (2 * k) (2 * j)) (eqb k j)
-      (slice_index amounts (at + width row.parent + width row.parent + width row.from + width row.until))
-      (even_test k j) in
-      omega arith
-
-  in_release_parent : (k : ℕ) (o : Option ℕ) (above held : ℕ)
-      → parent_sent (λ a. eqb a.to (2 * j + 1)) k o above held ≡ cond (is_at j o) held 0
-  in_release_parent k None above held = refl
-  in_release_parent k (Some p) above held =
-      let a : cond (eqb (2 * k) (2 * j + 1)) above 0 ≡ cond false above 0 =
-      told (eqb (2 * k) (2 * j + 1)) false above (even_odd k j) in
-      let b : cond (eqb (2 * p + 1) (2 * j + 1)) held 0 ≡ cond (eqb p j) held 0 =
-      told (eqb (2 * p + 1) (2 * j + 1)) (eqb p j) held (odd_test p j) in
-      omega arith
-
-  in_release_first : (k : ℕ) (o : Option ℕ) (x : ℕ) → first_sent (λ a. eqb a.to (2 * j + 1)) (2 * n) k o x ≡ 0
-  in_release_first k None x = refl
-  in_release_first k (Some f) x = told (eqb (2 * n) (2 * j + 1)) false x (even_odd n j)
-
-  in_release_last : (k : ℕ) (o : Option ℕ) (x : ℕ) → (o ≡ None → x ≡ 0)
-      → last_sent (λ a. eqb a.to (2 * j + 1)) (2 * n) k o x ≡ cond (eqb k j) x 0
-  in_release_last k None x none = sym (ap (λ y. cond (eqb k j) y 0) (none refl) ∙ cond_zero (eqb k j))
-  in_release_last k (Some f) x none = told (eqb (2 * k + 1) (2 * j + 1)) (eqb k j) x (odd_test k j)
-
-  abbrev in_release_sum : ℕ → SpanRow → FlowRow → ℕ
-  in_release_sum k row f =
-      (of_children j (λ g. g.held) k row f + at_place j (λ g. g.last) k row f) + at_place j (λ g. g.own) k row f
-
-  in_release_row : (k at : ℕ) (row : SpanRow)
-      → row_sent (λ a. eqb a.to (2 * j + 1)) (2 * n) k row (read_row row amounts at)
-      ≡ in_release_sum k row (read_row row amounts at)
-  in_release_row k at row =
-      let a = in_release_parent k row.parent (amount_if row.parent amounts at)
-      (amount_if row.parent amounts (at + 1)) in
-      let b = in_release_first k row.from (amount_if row.from amounts (at + width row.parent + width row.parent)) in
-      let c = in_release_last k row.until
-      (amount_if row.until amounts (at + width row.parent + width row.parent + width row.from))
-      (absent row.until (at + width row.parent + width row.parent + width row.from)) in
-      let d = told (eqb (2 * k + 1) (2 * j + 1)) (eqb k j)
-      (slice_index amounts (at + width row.parent + width row.parent + width row.from + width row.until))
-      (odd_test k j) in
-      omega arith
-
-  out_release_parent : (k : ℕ) (o : Option ℕ) (above held : ℕ)
-      → parent_sent (λ a. eqb a.from (2 * j + 1)) k o above held ≡ 0
-  out_release_parent k None above held = refl
-  out_release_parent k (Some p) above held =
-      let a : cond (eqb (2 * p) (2 * j + 1)) above 0 ≡ cond false above 0 =
-      told (eqb (2 * p) (2 * j + 1)) false above (even_odd p j) in
-      let b : cond (eqb (2 * k) (2 * j + 1)) held 0 ≡ cond false held 0 =
-      told (eqb (2 * k) (2 * j + 1)) false held (even_odd k j) in
-      omega arith
-
-  out_release_first : (k : ℕ) (o : Option ℕ) (x : ℕ) → first_sent (λ a. eqb a.from (2 * j + 1)) (2 * n) k o x ≡ 0
-  out_release_first k None x = refl
-  out_release_first k (Some f) x = told (eqb (2 * k) (2 * j + 1)) false x (even_odd k j)
-
-  out_release_last : (k : ℕ) (o : Option ℕ) (x : ℕ) → last_sent (λ a. eqb a.from (2 * j + 1)) (2 * n) k o x ≡ 0
-  out_release_last k None x = refl
-  out_release_last k (Some f) x = told (eqb (2 * n) (2 * j + 1)) false x (even_odd n j)
-
-  out_release_row : (k at : ℕ) (row : SpanRow)
-      → row_sent (λ a. eqb a.from (2 * j + 1)) (2 * n) k row (read_row row amounts at) ≡ 0
-  out_release_row k at row =
-      let a = out_release_parent k row.parent (amount_if row.parent amounts at)
-      (amount_if row.parent amounts (at + 1)) in
-      let b = out_release_first k row.from (amount_if row.from amounts (at + width row.parent + width row.parent)) in
-      let c = out_release_last k row.until
-      (amount_if row.until amounts (at + width row.parent + width row.parent + width row.from)) in
-      let d = told (eqb (2 * k) (2 * j + 1)) false
-      (slice_index amounts (at + width row.parent + width row.parent + width row.from + width row.until))
-      (even_odd k j) in
-      omega arith
+-- where the test is for the parent
+parent_end : (o : Option ℕ) (test : ℕ → Bool) (j amount : ℕ) → ((x : ℕ) → test x ≡ eqb x j)
+    → worth o (λ x. cond (test x) amount 0) ≡ cond (is_at j o) amount 0
+parent_end None test j amount same = refl
+parent_end (Some x) test j amount same = ap (λ t. cond t amount 0) (same x)
 
 -- The needs by place.
 
-two_more : (k : ℕ) → 2 * suc k ≡ suc (suc (2 * k))
-two_more k = omega arith
-
-odd_more : (k : ℕ) → 2 * suc k + 1 ≡ suc (suc (2 * k + 1))
-odd_more k = omega arith
+need_at : (tree : Rows) (rows : List SpanRow) (k : ℕ) (row : SpanRow) → slice_get rows k ≡ Some row
+    → slice_get (weights_of tree rows) k ≡ Some (weight_of tree row.node)
+need_at tree rows k row h = get_map (λ (r : SpanRow). weight_of tree r.node) rows k row h
 
 pub need_lock : (tree : Rows) (rows : List SpanRow) (k : ℕ) (row : SpanRow) → slice_get rows k ≡ Some row
     → place (needs_of tree rows) (2 * k) ≡ neg_ℤ (pos (weight_of tree row.node))
-need_lock tree [] k row h = absurd (none-some row h)
-need_lock tree (r ∷ rows) zero row h = ap (λ (x : SpanRow). neg_ℤ (pos (weight_of tree x.node))) (same_Some r row h)
-need_lock tree (r ∷ rows) (suc k) row h =
-    ap (λ (i : ℕ). place (needs_of tree (r ∷ rows)) i) (two_more k) ∙ need_lock tree rows k row h
+need_lock tree rows k row h =
+    pairs_lock (λ weight. neg_ℤ (pos weight)) (λ weight. pos weight) (weights_of tree rows) k (weight_of tree row.node) (need_at tree rows k row h)
 
 pub need_release : (tree : Rows) (rows : List SpanRow) (k : ℕ) (row : SpanRow) → slice_get rows k ≡ Some row
     → place (needs_of tree rows) (2 * k + 1) ≡ pos (weight_of tree row.node)
-need_release tree [] k row h = absurd (none-some row h)
-need_release tree (r ∷ rows) zero row h = ap (λ (x : SpanRow). pos (weight_of tree x.node)) (same_Some r row h)
-need_release tree (r ∷ rows) (suc k) row h =
-    ap (λ (i : ℕ). place (needs_of tree (r ∷ rows)) i) (odd_more k) ∙ need_release tree rows k row h
+need_release tree rows k row h =
+    pairs_release (λ weight. neg_ℤ (pos weight)) (λ weight. pos weight) (weights_of tree rows) k (weight_of tree row.node) (need_at tree rows k row h)
 
 pub needs_size : (tree : Rows) (rows : List SpanRow) → length (needs_of tree rows) ≡ 2 * length rows + 1
-needs_size tree [] = refl
-needs_size tree (r ∷ rows) = let e : length (needs_of tree rows) ≡ 2 * length rows + 1 = needs_size tree rows in
-    omega arith
+needs_size tree rows =
+    pairs_size (λ weight. neg_ℤ (pos weight)) (λ weight. pos weight) (weights_of tree rows)
+    ∙ ap (λ n. 2 * n + 1) (map_length (λ (r : SpanRow). weight_of tree r.node) rows)
 
 lock_meets : (i o w : ℕ) (z : ℤ) → z ≡ neg_ℤ (pos w) → pos i ≡ pos o +ℤ z → i + w ≡ o
 lock_meets i o w z e h = omega (arith, ints)
@@ -228,20 +88,7 @@ lock_meets i o w z e h = omega (arith, ints)
 release_meets : (i o w : ℕ) (z : ℤ) → z ≡ pos w → pos i ≡ pos o +ℤ z → o ≡ 0 → i ≡ w
 release_meets i o w z e h zero_out = omega (arith, ints)
 
--- The balances.
-
-module _ (tree : Rows) (nodes lengths : List ℕ) (rows : List SpanRow) (amounts : List ℕ) (places : List ℤ)
-    (is_span : IsSpan tree nodes lengths rows)
-    (solution : IsSolution (needs_of tree rows) (arcs_from (2 * length rows) 0 rows) amounts places) where
-  abbrev n : ℕ
-  n = length rows
-
-  abbrev arcs : List Arc
-  arcs = arcs_from (2 * length rows) 0 rows
-
-  abbrev flow : List FlowRow
-  flow = read_rows rows amounts 0
-
+module _ (tree : Rows) (nodes lengths : List ℕ) (rows : List SpanRow) (is_span : IsSpan tree nodes lengths rows) where
   -- a row's parent is at a place exactly where it is the node there
   pub parent_at : (j : ℕ) (over : SpanRow) → slice_get rows j ≡ Some over → (i : ℕ) (row : SpanRow)
       → slice_get rows i ≡ Some row
@@ -261,64 +108,118 @@ module _ (tree : Rows) (nodes lengths : List ℕ) (rows : List SpanRow) (amounts
       (subst P is_span.named (get_map node_of_row rows j over g)) in
       is_at_from j row.parent (p.2 ∙ ap (λ (v : ℕ). Some v) one))
 
-  module _ (j : ℕ) (row : SpanRow) (f : FlowRow) (there : slice_get rows j ≡ Some row)
-      (beside : slice_get flow j ≡ Some f) (same : f.node ≡ row.node) where
+  -- a row is the one at a place exactly where it has the node there
+  same_row : (j i : ℕ) (over row : SpanRow) → slice_get rows j ≡ Some over → slice_get rows i ≡ Some row
+      → eqb i j ≡ eqb row.node over.node
+  same_row j i over row g h = same_tests (eqb i j) (eqb row.node over.node)
+      (λ e. eq-eqb row.node over.node (ap node_of_row (same_Some row over
+      (sym h ∙ (ap (slice_get rows) (eqb-true i j e) ∙ g)))))
+      (λ e.
+      let P : List ℕ → Type 0 = λ xs. slice_get xs j ≡ Some over.node in
+      let Q : List ℕ → Type 0 = λ xs. slice_get xs i ≡ Some over.node in
+      eq-eqb i j (passing_once (length tree) (is_forced tree nodes) i j over.node
+      (subst Q is_span.named (get_map node_of_row rows i row h ∙ ap (λ (v : ℕ). Some v) (eqb-true row.node over.node e)))
+      (subst P is_span.named (get_map node_of_row rows j over g))))
+
+  -- The balances.
+
+  module _ (amounts : List ℕ) (flow : List FlowRow) (places : List ℤ) (read : IsRead rows amounts flow)
+      (solution : IsSolution (needs_of tree rows) (arcs_from (2 * length rows) 0 rows) amounts places)
+      (j : ℕ) (over : SpanRow) (f : FlowRow) (there : slice_get rows j ≡ Some over)
+      (beside : slice_get flow j ≡ Some f) (same : f.node ≡ over.node) where
+    abbrev arcs : List Arc
+    arcs = arcs_from (2 * length rows) 0 rows
+
     lt : j < length rows
-    lt = slice_get_within rows j row there
+    lt = slice_get_within rows j over there
 
-    zero_plus : j ≡ 0 + j
-    zero_plus = omega arith
+    -- the amount of this row alone, and those of its children
+    abbrev here : (FlowRow → ℕ) → FlowRow → ℕ
+    here amount row = cond (eqb row.node f.node) (amount row) 0
 
-    here : (amount : FlowRow → ℕ) → pair_sum (at_place j amount) 0 rows amounts 0 ≡ amount f
-    here amount = pair_one amount amounts j 0 j rows 0 f zero_plus beside
+    abbrev below : (FlowRow → ℕ) → FlowRow → ℕ
+    below amount row = cond (is_child tree row f) (amount row) 0
 
-    children : (amount : FlowRow → ℕ) → pair_sum (of_children j amount) 0 rows amounts 0 ≡ child_sum tree amount flow f
-    children amount = pair_children tree j f amount amounts 0 rows 0
-        (λ i r h. parent_at j row there i r h ∙ ap (λ v. is_at v (parent_of tree r.node)) (sym same))
+    here_is : (amount : FlowRow → ℕ) → sum_by (here amount) flow ≡ amount f
+    here_is amount =
+        sums_one (here amount) flow j f beside (λ i g at apart.
+        let r = some_right IsReadRow rows flow i g read.each at in
+        ap (λ t. cond t (amount g) 0) (ap₂ (λ a b. eqb a b) (r.2).node same
+        ∙ (sym (same_row j i over r.0 there r.1) ∙ ne_eqb i j apart)))
+        ∙ ap (λ t. cond t (amount f) 0) (eq-eqb f.node f.node refl)
+
+    is_here : (i : ℕ) (row : SpanRow) (g : FlowRow) → slice_get rows i ≡ Some row → IsReadRow row g
+        → eqb i j ≡ eqb g.node f.node
+    is_here i row g at is = same_row j i over row there at ∙ ap₂ (λ a b. eqb a b) (sym is.node) (sym same)
+
+    is_below : (i : ℕ) (row : SpanRow) (g : FlowRow) → slice_get rows i ≡ Some row → IsReadRow row g
+        → is_at j row.parent ≡ is_child tree g f
+    is_below i row g at is = parent_at j over there i row at ∙ ap₂ (λ a b. is_at a (parent_of tree b)) (sym same) (sym is.node)
 
     in_lock : amount_in arcs amounts (2 * j) ≡ f.above
-    in_lock = sent_is (λ a. eqb a.to (2 * j)) arcs amounts
-        ∙ (rows_part (λ a. eqb a.to (2 * j)) (2 * length rows) amounts 0 0 rows
-        ∙ (pair_same (row_sent (λ a. eqb a.to (2 * j)) (2 * length rows)) (at_place j (λ g. g.above)) amounts
-        (in_lock_row (length rows) j lt amounts) 0 rows 0
-        ∙ here (λ g. g.above)))
+    in_lock =
+        sent_rows (2 * length rows) rows amounts flow read (λ a. eqb a.to (2 * j)) (here (λ g. g.above)) (λ i row g at at2 is.
+        let b = is_here i row g at is in
+        row_sum row (λ kind x. (arc_to (2 * length rows) i kind x, amount_of kind g)) (λ (l : Link). cond (eqb (l.0).to (2 * j)) l.1 0)
+        (here (λ h. h.above) g) 0 0 0 0
+        (one_end row.parent (λ x. eqb (2 * i) (2 * j)) (eqb g.node f.node) g.above (is.none Above) (λ x. even_test i j ∙ b))
+        (one_end row.parent (λ x. eqb (2 * x + 1) (2 * j)) false g.held (is.none Held) (λ x. odd_even x j))
+        (one_end row.from (λ x. eqb (2 * length rows) (2 * j)) false g.first (is.none First) (λ x. even_less (length rows) j lt))
+        (one_end row.until (λ x. eqb (2 * i + 1) (2 * j)) false g.last (is.none Last) (λ x. odd_even i j))
+        (one_end (Some 0) (λ x. eqb (2 * i + 1) (2 * j)) false g.own (is.none Own) (λ x. odd_even i j))
+        ∙ (omega arith))
+        ∙ here_is (λ g. g.above)
 
-    out_lock : amount_out arcs amounts (2 * j) ≡ ((child_sum tree (λ g. g.above) flow f + f.held) + f.first) + f.own
-    out_lock = sent_is (λ a. eqb a.from (2 * j)) arcs amounts
-        ∙ (rows_part (λ a. eqb a.from (2 * j)) (2 * length rows) amounts 0 0 rows
-        ∙ (pair_same (row_sent (λ a. eqb a.from (2 * j)) (2 * length rows)) (out_lock_sum (length rows) j lt amounts)
-        amounts (out_lock_row (length rows) j lt amounts) 0 rows 0
-        ∙ (pair_add (λ k r g. (of_children j (λ x. x.above) k r g + at_place j (λ x. x.held) k r g)
-        + at_place j (λ x. x.first) k r g) (at_place j (λ x. x.own)) amounts 0 rows 0
-        ∙ ap₂ (λ a b. a + b)
-        (pair_add (λ k r g. of_children j (λ x. x.above) k r g + at_place j (λ x. x.held) k r g)
-        (at_place j (λ x. x.first)) amounts 0 rows 0
-        ∙ ap₂ (λ a b. a + b)
-        (pair_add (of_children j (λ x. x.above)) (at_place j (λ x. x.held)) amounts 0 rows 0
-        ∙ ap₂ (λ a b. a + b) (children (λ x. x.above)) (here (λ x. x.held)))
-        (here (λ x. x.first)))
-        (here (λ x. x.own)))))
+    out_lock : amount_out arcs amounts (2 * j) ≡ child_sum tree (λ g. g.above) flow f + f.held + f.first + f.own
+    out_lock =
+        sent_rows (2 * length rows) rows amounts flow read (λ a. eqb a.from (2 * j))
+        (λ g. below (λ h. h.above) g + here (λ h. h.held) g + here (λ h. h.first) g + here (λ h. h.own) g) (λ i row g at at2 is.
+        let b = is_here i row g at is in
+        row_sum row (λ kind x. (arc_to (2 * length rows) i kind x, amount_of kind g)) (λ (l : Link). cond (eqb (l.0).from (2 * j)) l.1 0)
+        (below (λ h. h.above) g) (here (λ h. h.held) g) (here (λ h. h.first) g) 0 (here (λ h. h.own) g)
+        (parent_end row.parent (λ x. eqb (2 * x) (2 * j)) j g.above (λ x. even_test x j)
+        ∙ ap (λ t. cond t g.above 0) (is_below i row g at is))
+        (one_end row.parent (λ x. eqb (2 * i) (2 * j)) (eqb g.node f.node) g.held (is.none Held) (λ x. even_test i j ∙ b))
+        (one_end row.from (λ x. eqb (2 * i) (2 * j)) (eqb g.node f.node) g.first (is.none First) (λ x. even_test i j ∙ b))
+        (one_end row.until (λ x. eqb (2 * length rows) (2 * j)) false g.last (is.none Last) (λ x. even_less (length rows) j lt))
+        (one_end (Some 0) (λ x. eqb (2 * i) (2 * j)) (eqb g.node f.node) g.own (is.none Own) (λ x. even_test i j ∙ b))
+        ∙ (omega arith))
+        ∙ (sums_add (λ g. below (λ h. h.above) g + here (λ h. h.held) g + here (λ h. h.first) g) (here (λ h. h.own)) flow
+        ∙ ap₂ (λ a b. a + b) (sums_add (λ g. below (λ h. h.above) g + here (λ h. h.held) g) (here (λ h. h.first)) flow
+        ∙ ap₂ (λ a b. a + b) (sums_add (below (λ h. h.above)) (here (λ h. h.held)) flow
+        ∙ ap (λ b. child_sum tree (λ g. g.above) flow f + b) (here_is (λ h. h.held))) (here_is (λ h. h.first))) (here_is (λ h. h.own)))
 
-    in_release : amount_in arcs amounts (2 * j + 1) ≡ (child_sum tree (λ g. g.held) flow f + f.last) + f.own
-    in_release = sent_is (λ a. eqb a.to (2 * j + 1)) arcs amounts
-        ∙ (rows_part (λ a. eqb a.to (2 * j + 1)) (2 * length rows) amounts 0 0 rows
-        ∙ (pair_same (row_sent (λ a. eqb a.to (2 * j + 1)) (2 * length rows))
-        (in_release_sum (length rows) j lt amounts) amounts (in_release_row (length rows) j lt amounts) 0 rows 0
-        ∙ (pair_add (λ k r g. of_children j (λ x. x.held) k r g + at_place j (λ x. x.last) k r g)
-        (at_place j (λ x. x.own)) amounts 0 rows 0
-        ∙ ap₂ (λ a b. a + b)
-        (pair_add (of_children j (λ x. x.held)) (at_place j (λ x. x.last)) amounts 0 rows 0
-        ∙ ap₂ (λ a b. a + b) (children (λ x. x.held)) (here (λ x. x.last)))
-        (here (λ x. x.own)))))
+    in_release : amount_in arcs amounts (2 * j + 1) ≡ child_sum tree (λ g. g.held) flow f + f.last + f.own
+    in_release =
+        sent_rows (2 * length rows) rows amounts flow read (λ a. eqb a.to (2 * j + 1))
+        (λ g. below (λ h. h.held) g + here (λ h. h.last) g + here (λ h. h.own) g) (λ i row g at at2 is.
+        let b = is_here i row g at is in
+        row_sum row (λ kind x. (arc_to (2 * length rows) i kind x, amount_of kind g)) (λ (l : Link). cond (eqb (l.0).to (2 * j + 1)) l.1 0)
+        0 (below (λ h. h.held) g) 0 (here (λ h. h.last) g) (here (λ h. h.own) g)
+        (one_end row.parent (λ x. eqb (2 * i) (2 * j + 1)) false g.above (is.none Above) (λ x. even_odd i j))
+        (parent_end row.parent (λ x. eqb (2 * x + 1) (2 * j + 1)) j g.held (λ x. odd_test x j)
+        ∙ ap (λ t. cond t g.held 0) (is_below i row g at is))
+        (one_end row.from (λ x. eqb (2 * length rows) (2 * j + 1)) false g.first (is.none First) (λ x. even_odd (length rows) j))
+        (one_end row.until (λ x. eqb (2 * i + 1) (2 * j + 1)) (eqb g.node f.node) g.last (is.none Last) (λ x. odd_test i j ∙ b))
+        (one_end (Some 0) (λ x. eqb (2 * i + 1) (2 * j + 1)) (eqb g.node f.node) g.own (is.none Own) (λ x. odd_test i j ∙ b))
+        ∙ (omega arith))
+        ∙ (sums_add (λ g. below (λ h. h.held) g + here (λ h. h.last) g) (here (λ h. h.own)) flow
+        ∙ ap₂ (λ a b. a + b) (sums_add (below (λ h. h.held)) (here (λ h. h.last)) flow
+        ∙ ap (λ b. child_sum tree (λ g. g.held) flow f + b) (here_is (λ h. h.last))) (here_is (λ h. h.own)))
 
     out_release : amount_out arcs amounts (2 * j + 1) ≡ 0
-    out_release = sent_is (λ a. eqb a.from (2 * j + 1)) arcs amounts
-        ∙ (rows_part (λ a. eqb a.from (2 * j + 1)) (2 * length rows) amounts 0 0 rows
-        ∙ (pair_same (row_sent (λ a. eqb a.from (2 * j + 1)) (2 * length rows)) (λ k r g. 0) amounts
-        (out_release_row (length rows) j lt amounts) 0 rows 0
-        ∙ pair_zero amounts 0 rows 0))
+    out_release =
+        sent_rows (2 * length rows) rows amounts flow read (λ a. eqb a.from (2 * j + 1)) (λ g. 0) (λ i row g at at2 is.
+        row_sum row (λ kind x. (arc_to (2 * length rows) i kind x, amount_of kind g)) (λ (l : Link). cond (eqb (l.0).from (2 * j + 1)) l.1 0)
+        0 0 0 0 0
+        (one_end row.parent (λ x. eqb (2 * x) (2 * j + 1)) false g.above (is.none Above) (λ x. even_odd x j))
+        (one_end row.parent (λ x. eqb (2 * i) (2 * j + 1)) false g.held (is.none Held) (λ x. even_odd i j))
+        (one_end row.from (λ x. eqb (2 * i) (2 * j + 1)) false g.first (is.none First) (λ x. even_odd i j))
+        (one_end row.until (λ x. eqb (2 * length rows) (2 * j + 1)) false g.last (is.none Last) (λ x. even_odd (length rows) j))
+        (one_end (Some 0) (λ x. eqb (2 * i) (2 * j + 1)) false g.own (is.none Own) (λ x. even_odd i j)))
+        ∙ sums_zero (λ g. 0) flow (λ i g at. refl)
 
-    weight_same : weight_of tree f.node ≡ weight_of tree row.node
+    weight_same : weight_of tree f.node ≡ weight_of tree over.node
     weight_same = ap (λ v. weight_of tree v) same
 
     pub lock_balanced : is_lock_balanced tree flow f ≡ true
@@ -328,9 +229,9 @@ module _ (tree : Rows) (nodes lengths : List ℕ) (rows : List SpanRow) (amounts
         let i = in_lock in
         let o = out_lock in
         let w = weight_same in
-        let e : amount_in arcs amounts (2 * j) + weight_of tree row.node ≡ amount_out arcs amounts (2 * j) =
-        lock_meets (amount_in arcs amounts (2 * j)) (amount_out arcs amounts (2 * j)) (weight_of tree row.node)
-        (place (needs_of tree rows) (2 * j)) (need_lock tree rows j row there)
+        let e : amount_in arcs amounts (2 * j) + weight_of tree over.node ≡ amount_out arcs amounts (2 * j) =
+        lock_meets (amount_in arcs amounts (2 * j)) (amount_out arcs amounts (2 * j)) (weight_of tree over.node)
+        (place (needs_of tree rows) (2 * j)) (need_lock tree rows j over there)
         (solution.balanced (2 * j) (omega arith)) in
         eq-eqb (f.above + weight_of tree f.node)
         (child_sum tree (λ child. child.above) flow f + f.held + f.first + f.own) (omega arith)
@@ -341,8 +242,8 @@ module _ (tree : Rows) (nodes lengths : List ℕ) (rows : List SpanRow) (amounts
         let within : j < length rows = lt in
         let i = in_release in
         let w = weight_same in
-        let e : amount_in arcs amounts (2 * j + 1) ≡ weight_of tree row.node =
+        let e : amount_in arcs amounts (2 * j + 1) ≡ weight_of tree over.node =
         release_meets (amount_in arcs amounts (2 * j + 1)) (amount_out arcs amounts (2 * j + 1))
-        (weight_of tree row.node) (place (needs_of tree rows) (2 * j + 1)) (need_release tree rows j row there)
+        (weight_of tree over.node) (place (needs_of tree rows) (2 * j + 1)) (need_release tree rows j over there)
         (solution.balanced (2 * j + 1) (omega arith)) out_release in
         eq-eqb (child_sum tree (λ child. child.held) flow f + f.last + f.own) (weight_of tree f.node) (omega arith)

@@ -1,21 +1,19 @@
 -- What is pushed for the items of a list, one after the other, where what is still to come follows from those left.
-use Rattle.std.proofs.Common.{◌≡◌, ℕ, ◌+◌, ◌<◌, ◌≤◌, List, [], ◌∷◌, ◌++◌, length, get_or, drop, sym, ◌∙◌, ap, ap₂, append_assoc}
+use Rattle.std.proofs.Common.{◌≡◌, ℕ, suc, ◌+◌, ◌<◌, ◌≤◌, List, [], ◌∷◌, ◌++◌, length, get_or, drop, sym, ◌∙◌, ap, arith, append_assoc}
 use Rattle.std.proofs.lemmas.List.{append-nil, at_drop_more, at_drop_all}
 
--- the two that one more item gives
-pub pair_more : {A B : Type 0} (rest : List A → List B) (first second : A → B)
-    → ((x : A) (xs : List A) → rest (x ∷ xs) ≡ first x ∷ (second x ∷ rest xs))
-    → (items : List A) (i : ℕ) (x d : A) (pushed more whole : List B) (a b : B)
-    → i < length items → x ≡ get_or items i d
-    → pushed ++ rest (drop i items) ≡ whole → more ≡ pushed ++ (a ∷ (b ∷ [])) → a ≡ first x → b ≡ second x
-    → more ++ rest (drop (i + 1) items) ≡ whole
-pair_more rest first second next items i x d pushed more whole a b lt is so_far pair one two =
-    ap (λ front. front ++ rest (drop (i + 1) items)) pair
-    ∙ (append_assoc pushed (a ∷ (b ∷ [])) (rest (drop (i + 1) items))
-    ∙ (ap₂ (λ v w. pushed ++ (v ∷ (w ∷ rest (drop (i + 1) items)))) one two
-    ∙ (ap (λ back. pushed ++ back) (sym (next x (drop (i + 1) items)))
-    ∙ (ap (λ y. pushed ++ rest (y ∷ drop (i + 1) items)) is
-    ∙ (ap (λ back. pushed ++ back) (sym (at_drop_more rest items i d lt)) ∙ so_far)))))
+-- what one more item gives
+pub pieces_more : {A B : Type 0} (rest : ℕ → List A → List B) (piece : ℕ → A → List B)
+    → ((k : ℕ) (x : A) (xs : List A) → rest k (x ∷ xs) ≡ piece k x ++ rest (suc k) xs)
+    → (items : List A) (i : ℕ) (x d : A) (pushed more whole : List B) → i < length items → x ≡ get_or items i d
+    → pushed ++ rest i (drop i items) ≡ whole → more ≡ pushed ++ piece i x → more ++ rest (i + 1) (drop (i + 1) items) ≡ whole
+pieces_more rest piece next items i x d pushed more whole lt is so_far added =
+    ap (λ front. front ++ rest (i + 1) (drop (i + 1) items)) added
+    ∙ (append_assoc pushed (piece i x) (rest (i + 1) (drop (i + 1) items))
+    ∙ (ap (λ n. pushed ++ (piece i x ++ rest n (drop (i + 1) items))) (let one : i + 1 ≡ suc i = omega arith in one)
+    ∙ (ap (λ back. pushed ++ back) (sym (next i x (drop (i + 1) items)))
+    ∙ (ap (λ y. pushed ++ rest i (y ∷ drop (i + 1) items)) is
+    ∙ (ap (λ back. pushed ++ back) (sym (at_drop_more (rest i) items i d lt)) ∙ so_far)))))
 
 -- no item is left
 pub rest_pushed : {A B : Type 0} (rest : List A → List B)

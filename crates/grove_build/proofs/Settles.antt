@@ -1,17 +1,17 @@
 -- What the solver and the latest places give for the network of a list's nodes: the settled plan, its certificate and
 -- its cost.
-use Rattle.std.proofs.Common.{◌≡◌, ℕ, zero, suc, ◌+◌, ◌-◌, ◌*◌, ◌≤◌, ◌^◌, ◌⊎◌, ◌&&◌, ◌||◌, Bool, true, false, cond, eqb, leb, List, [], ◌∷◌, map, length, Option, Some, None, ℤ, pos, neg_ℤ, refl, sym, ◌∙◌, ap, subst, inl, inr, arith, eq-eqb, le-leb, le_trans, lit≤, length-append, mul-zero}
+use Rattle.std.proofs.Common.{◌≡◌, ℕ, zero, suc, ◌+◌, ◌-◌, ◌*◌, ◌≤◌, ◌^◌, ◌⊎◌, ◌&&◌, Bool, true, false, cond, eqb, leb, List, [], ◌∷◌, map, length, Option, Some, None, ℤ, pos, neg_ℤ, refl, sym, ◌∙◌, ap, ap₂, subst, inl, inr, arith, eq-eqb, le-leb, le_trans, lit≤, length-append, mul-zero}
 use Rattle.std.specs.Prelude.{slice_index}
-use Rattle.std.specs.List.{slice_get, sum_by}
+use Rattle.std.specs.List.{slice_get, sum_by, AllZip}
 use Rattle.std.proofs.lemmas.Int.{ints}
-use Rattle.std.proofs.lemmas.Option.{none-some, same_Some, slice_get_within}
+use Rattle.std.proofs.lemmas.Option.{slice_get_within, get_or_from_slice_get}
 use Rattle.std.proofs.lemmas.Bool.{cases_Bool, and_from, or_left, or_right, cond-false}
 use borrow.Author.Differences.{up}
 use Rattle.grove_tree.specs.Trees.{Rows, parent_of, weight_of}
 use Rattle.grove_tree.specs.Rules.{IsWithinLimits}
 use Rattle.grove_base.specs.Numbers.{sum_below, passing_below, alone}
 use Rattle.grove_base.proofs.Counting.{any_from, sum_same}
-use Rattle.grove_base.proofs.Lists.{map_length}
+use Rattle.grove_base.proofs.Lists.{get_map, get_map_inv, map_length}
 use Rattle.grove_tree.proofs.Tests.{is_at_from}
 use Rattle.grove_access.specs.Slots.{slots_before}
 use Rattle.grove_access.specs.Forced.{IsForcedByTree, is_forced, forced_nodes, is_accessed, first_access, last_end}
@@ -31,33 +31,21 @@ use Rattle.grove_flow.specs.Networks.{place, IsLatest}
 use Rattle.grove_flow.specs.Flows.{takes, IsSolution}
 use Rattle.grove_build.specs.Layout.{laid_out}
 use Rattle.grove_build.specs.Settled.{IsSettled}
-use Rattle.grove_build.specs.Networks.{IsSpan, arcs_from, needs_of, width, row_width, amount_if, read_row, read_rows}
+use Rattle.grove_build.specs.declared.kinds.Kind.{Kind}
+use Rattle.grove_build.specs.declared.kinds.Kind.TheVariants.{Above, Held, First, Last, Own}
+use Rattle.grove_build.specs.Networks.{IsSpan, IsReadRow, IsRead, bound, arc_to, amount_of, arcs_from, needs_of, weights_of}
 use Rattle.grove_build.proofs.Fitting.{ArePlaces}
-use Rattle.grove_build.proofs.Found.{flow_at, parent_known, row_spanned}
+use Rattle.grove_build.proofs.Batched.{some_left, some_right}
+use Rattle.grove_build.proofs.Pairs.{pairs_each}
+use Rattle.grove_build.proofs.Links.{Link, links_from, links_have, links_amounts}
+use Rattle.grove_build.proofs.Found.{parent_known, row_spanned}
 use Rattle.grove_build.proofs.Latest.{latest_are_places}
 use Rattle.grove_build.proofs.Needs.{needs_size, lock_balanced, release_balanced}
 use Rattle.grove_build.proofs.Settling as Settling
 
--- a flow's row at a place, as it was read
-pub read_at : (rows : List SpanRow) (amounts : List ℕ) (at k : ℕ) (f : FlowRow)
-    → slice_get (read_rows rows amounts at) k ≡ Some f
-    → (row : SpanRow) × (from : ℕ) × (slice_get rows k ≡ Some row) × (f ≡ read_row row amounts from)
-read_at [] amounts at k f h = absurd (none-some f h)
-read_at (r ∷ rows) amounts at zero f h = (r, at, refl, sym (same_Some (read_row r amounts at) f h))
-read_at (r ∷ rows) amounts at (suc k) f h = read_at rows amounts (at + row_width r) k f h
-
-pub read_nodes : (rows : List SpanRow) (amounts : List ℕ) (at : ℕ)
-    → map node_of (read_rows rows amounts at) ≡ map node_of_row rows
-read_nodes [] amounts at = refl
-read_nodes (r ∷ rows) amounts at = ap (λ l. r.node ∷ l) (read_nodes rows amounts (at + row_width r))
-
 cases_option : (o : Option ℕ) → (o ≡ None) ⊎ ((j : ℕ) × (o ≡ Some j))
 cases_option None = inl refl
 cases_option (Some j) = inr (j, refl)
-
-none_read : (o : Option ℕ) (amounts : List ℕ) (at : ℕ) → o ≡ None → amount_if o amounts at ≡ 0
-none_read None amounts at e = refl
-none_read (Some x) amounts at e = absurd (none-some x (sym e))
 
 -- sizes
 
@@ -84,19 +72,16 @@ up_pos w h = omega (arith, ints)
 
 takes_few : (tree : Rows) (rows : List SpanRow) → ((v : ℕ) → weight_of tree v ≤ 1000) → (v : ℕ)
     → takes (needs_of tree rows) v ≤ 1000
-takes_few tree [] light zero = up_pos 0 (omega arith)
-takes_few tree [] light (suc v) = up_pos 0 (omega arith)
-takes_few tree (r ∷ rows) light zero = up_neg (weight_of tree r.node)
-takes_few tree (r ∷ rows) light (suc zero) = up_pos (weight_of tree r.node) (light r.node)
-takes_few tree (r ∷ rows) light (suc (suc v)) = takes_few tree rows light v
+takes_few tree rows light v =
+    pairs_each (λ weight. neg_ℤ (pos weight)) (λ weight. pos weight) (λ z. up z ≤ 1000) (up_pos 0 (omega arith)) (weights_of tree rows)
+    (λ k weight h.
+    let r = get_map_inv (λ (row : SpanRow). weight_of tree row.node) rows k weight h in
+    let is : weight_of tree (r.0).node ≡ weight = r.2 in
+    let few : weight_of tree (r.0).node ≤ 1000 = light (r.0).node in
+    (up_neg weight, up_pos weight (omega arith))) v
 
 small_enough : (a : ℕ) → a ≤ 8193000 → leb a (2 ^ 40) ≡ true
 small_enough a h = let le : 8193000 ≤ 2 ^ 40 = lit≤ tt in le-leb a (2 ^ 40) (le_trans h le)
-
-if_small : (o : Option ℕ) (amounts : List ℕ) (at bound : ℕ) → ((i : ℕ) → slice_index amounts i ≤ bound)
-    → amount_if o amounts at ≤ bound
-if_small None amounts at bound h = omega arith
-if_small (Some x) amounts at bound h = h at
 
 part_all : (b : Bool) (w x : ℕ) → (b ≡ false → x ≡ 0) → w * x ≡ cond b (w * x) 0
 part_all true w x h = refl
@@ -113,12 +98,9 @@ rows_few tree nodes lengths rows is_span =
     let c : length (forced_nodes tree nodes) ≤ length tree = passing_few (length tree) (is_forced tree nodes) in
     omega arith
 
-module _ (tree : Rows) (nodes lengths : List ℕ) (rows : List SpanRow) (amounts : List ℕ) (solved : List ℤ)
-    (is_span : IsSpan tree nodes lengths rows) (limits : IsWithinLimits tree)
+module _ (tree : Rows) (nodes lengths : List ℕ) (rows : List SpanRow) (amounts : List ℕ) (flow : List FlowRow)
+    (is_span : IsSpan tree nodes lengths rows) (limits : IsWithinLimits tree) (read : IsRead rows amounts flow) (solved : List ℤ)
     (solution : IsSolution (needs_of tree rows) (arcs_from (2 * length rows) 0 rows) amounts solved) where
-  abbrev flow : List FlowRow
-  flow = read_rows rows amounts 0
-
   pub amounts_few : (i : ℕ) → slice_index amounts i ≤ 8193000
   amounts_few i =
       let a : slice_index amounts i ≤ sum_below (length (needs_of tree rows)) (takes (needs_of tree rows)) =
@@ -131,77 +113,76 @@ module _ (tree : Rows) (nodes lengths : List ℕ) (rows : List SpanRow) (amounts
       let e : length tree ≤ 4096 = limits.few in
       omega arith
 
+  row_at : (i : ℕ) (f : FlowRow) → slice_get flow i ≡ Some f → (row : SpanRow) × (slice_get rows i ≡ Some row) × IsReadRow row f
+  row_at i f h = some_right IsReadRow rows flow i f read.each h
+
+  -- what a row sends, where it has the arc, is one of the amounts
+  amount_few : (i : ℕ) (f : FlowRow) → slice_get flow i ≡ Some f → (kind : Kind) → amount_of kind f ≤ 8193000
+  amount_few i f h kind =
+      let r = row_at i f h in
+      elim (cases_option (bound r.0 kind)) [
+        | inl none ↦ let e : amount_of kind f ≡ 0 = (r.2).none kind none in omega arith
+        | inr some ↦
+            let l = links_have 0 0 i i rows flow r.0 f kind some.0 (omega arith) r.1 h some.1 in
+            let at : slice_index amounts l.0 ≡ amount_of kind f =
+            get_or_from_slice_get amounts l.0 (amount_of kind f) 0
+            (subst (λ xs. slice_get xs l.0 ≡ Some (amount_of kind f)) (links_amounts 0 0 rows flow ∙ read.whole)
+            (get_map (λ (link : Link). link.1) (links_from 0 0 rows flow) l.0 (arc_to 0 i kind some.0, amount_of kind f) l.1)) in
+            let few = amounts_few l.0 in omega arith
+      ]
+
   small : AllRows is_small flow
   small i f h =
-      let r = read_at rows amounts 0 i f h in
-      let row = r.0 in
-      let from = r.1 in
-      let P : FlowRow → Type 0 = λ g. is_small g ≡ true in
-      subst P (sym r.3)
-      (and_from _ _ (small_enough _ (if_small (r.0).parent amounts r.1 8193000 amounts_few))
-      (and_from _ _ (small_enough _ (if_small (r.0).parent amounts (r.1 + 1) 8193000 amounts_few))
-      (and_from _ _ (small_enough _ (if_small (r.0).from amounts (r.1 + width (r.0).parent + width (r.0).parent)
-      8193000 amounts_few))
-      (and_from _ _ (small_enough _ (if_small (r.0).until amounts
-      (r.1 + width (r.0).parent + width (r.0).parent + width (r.0).from) 8193000 amounts_few))
-      (small_enough _ (amounts_few (r.1 + width (r.0).parent + width (r.0).parent + width (r.0).from
-      + width (r.0).until)))))))
+      and_from _ _ (small_enough _ (amount_few i f h Above))
+      (and_from _ _ (small_enough _ (amount_few i f h Held))
+      (and_from _ _ (small_enough _ (amount_few i f h First))
+      (and_from _ _ (small_enough _ (amount_few i f h Last)) (small_enough _ (amount_few i f h Own)))))
 
-  sign_parent : (k at : ℕ) (row : SpanRow) → slice_get rows k ≡ Some row
-      → (has_parent tree flow (read_row row amounts at)
-      || (eqb (amount_if row.parent amounts at) 0 && eqb (amount_if row.parent amounts (at + 1)) 0)) ≡ true
-  sign_parent k at row h = elim (cases_option row.parent) [
-    | inl none ↦ or_right (has_parent tree flow (read_row row amounts at))
-        (eqb (amount_if row.parent amounts at) 0 && eqb (amount_if row.parent amounts (at + 1)) 0)
-        (and_from (eqb (amount_if row.parent amounts at) 0) (eqb (amount_if row.parent amounts (at + 1)) 0)
-        (eq-eqb (amount_if row.parent amounts at) 0 (none_read row.parent amounts at none))
-        (eq-eqb (amount_if row.parent amounts (at + 1)) 0 (none_read row.parent amounts (at + 1) none)))
-    | inr some ↦
-        let p = parent_known tree nodes lengths rows is_span k some.0 row h some.1 in
-        let f = flow_at rows amounts 0 some.0 p.0 p.1 in
-        or_left (has_parent tree flow (read_row row amounts at))
-        (eqb (amount_if row.parent amounts at) 0 && eqb (amount_if row.parent amounts (at + 1)) 0)
-        (any_from (length flow) (λ i. is_parent_at tree (read_row row amounts at) (slice_get flow i)) some.0
-        (slice_get_within flow some.0 f.0 f.1)
-        (ap (λ o. is_parent_at tree (read_row row amounts at) o) f.1
-        ∙ is_at_from (f.0).node (parent_of tree row.node) (p.2 ∙ ap (λ (v : ℕ). Some v) (sym f.2))))
-  ]
-
-  sign_access : (k a b : ℕ) (row : SpanRow) → slice_get rows k ≡ Some row
-      → (is_accessed nodes row.node
-      || (eqb (amount_if row.from amounts a) 0 && eqb (amount_if row.until amounts b) 0)) ≡ true
-  sign_access k a b row h = elim (cases_Bool (is_accessed nodes row.node)) [
-    | inl some ↦ or_left (is_accessed nodes row.node)
-        (eqb (amount_if row.from amounts a) 0 && eqb (amount_if row.until amounts b) 0) some
-    | inr none ↦
-        let e : row.from ≡ None = (is_span.accesses k row h).from
-        ∙ cond-false (is_accessed nodes row.node) (Some (slots_before lengths (first_access nodes row.node))) None none in
-        let f : row.until ≡ None = (is_span.accesses k row h).until
-        ∙ cond-false (is_accessed nodes row.node) (Some (slots_before lengths (last_end nodes row.node))) None none in
-        or_right (is_accessed nodes row.node)
-        (eqb (amount_if row.from amounts a) 0 && eqb (amount_if row.until amounts b) 0)
-        (and_from (eqb (amount_if row.from amounts a) 0) (eqb (amount_if row.until amounts b) 0)
-        (eq-eqb (amount_if row.from amounts a) 0 (none_read row.from amounts a e))
-        (eq-eqb (amount_if row.until amounts b) 0 (none_read row.until amounts b f)))
-  ]
+  none_sent : (a b : ℕ) → a ≡ 0 → b ≡ 0 → (eqb a 0 && eqb b 0) ≡ true
+  none_sent a b e f = and_from (eqb a 0) (eqb b 0) (eq-eqb a 0 e) (eq-eqb b 0 f)
 
   signs : AllRows (is_sign_ok tree nodes flow) flow
   signs i f h =
-      let r = read_at rows amounts 0 i f h in
-      let P : FlowRow → Type 0 = λ g. is_sign_ok tree nodes flow g ≡ true in
-      subst P (sym r.3) (and_from _ _ (sign_parent i r.1 r.0 r.2)
-      (sign_access i (r.1 + width (r.0).parent + width (r.0).parent)
-      (r.1 + width (r.0).parent + width (r.0).parent + width (r.0).from) r.0 r.2))
+      let r = row_at i f h in
+      and_from _ _
+      (elim (cases_option (r.0).parent) [
+        | inl none ↦ or_right (has_parent tree flow f) (eqb f.above 0 && eqb f.held 0)
+            (none_sent f.above f.held ((r.2).none Above none) ((r.2).none Held none))
+        | inr some ↦
+            let p = parent_known tree nodes lengths rows is_span i some.0 r.0 r.1 some.1 in
+            let g = some_left IsReadRow rows flow some.0 p.0 read.each p.1 in
+            or_left (has_parent tree flow f) (eqb f.above 0 && eqb f.held 0)
+            (any_from (length flow) (λ k. is_parent_at tree f (slice_get flow k)) some.0 (slice_get_within flow some.0 g.0 g.1)
+            (ap (λ o. is_parent_at tree f o) g.1
+            ∙ is_at_from (g.0).node (parent_of tree f.node)
+            (ap (λ n. parent_of tree n) (r.2).node ∙ (p.2 ∙ ap (λ (v : ℕ). Some v) (sym (g.2).node)))))
+      ])
+      (elim (cases_Bool (is_accessed nodes f.node)) [
+        | inl some ↦ or_left (is_accessed nodes f.node) (eqb f.first 0 && eqb f.last 0) some
+        | inr none ↦
+            let off : is_accessed nodes (r.0).node ≡ false = ap (λ n. is_accessed nodes n) (sym (r.2).node) ∙ none in
+            let a = is_span.accesses i r.0 r.1 in
+            or_right (is_accessed nodes f.node) (eqb f.first 0 && eqb f.last 0)
+            (none_sent f.first f.last
+            ((r.2).none First (a.from ∙ cond-false (is_accessed nodes (r.0).node) (Some (slots_before lengths (first_access nodes (r.0).node))) None off))
+            ((r.2).none Last (a.until ∙ cond-false (is_accessed nodes (r.0).node) (Some (slots_before lengths (last_end nodes (r.0).node))) None off)))
+      ])
+
+  same_nodes : (some : List SpanRow) (those : List FlowRow) → AllZip IsReadRow some those → map node_of those ≡ map node_of_row some
+  same_nodes [] [] each = refl
+  same_nodes [] (f ∷ those) each = absurd each
+  same_nodes (row ∷ some) [] each = absurd each
+  same_nodes (row ∷ some) (f ∷ those) each = ap₂ (λ (n : ℕ) l. n ∷ l) (each.0).node (same_nodes some those each.1)
 
   pub balances : Balances tree nodes flow
   balances = record {
     forced = (forced_list_is_by_tree tree nodes (map node_of flow) is_span.is_tree is_span.are_nodes).1
-        (read_nodes rows amounts 0 ∙ is_span.named);
+        (same_nodes rows flow read.each ∙ is_span.named);
     signs = signs;
-    locks = λ i f h. let r = read_at rows amounts 0 i f h in
-        lock_balanced tree nodes lengths rows amounts solved is_span solution i r.0 f r.2 h (ap node_of r.3);
-    releases = λ i f h. let r = read_at rows amounts 0 i f h in
-        release_balanced tree nodes lengths rows amounts solved is_span solution i r.0 f r.2 h (ap node_of r.3);
+    locks = λ i f h. let r = row_at i f h in
+        lock_balanced tree nodes lengths rows is_span amounts flow solved read solution i r.0 f r.1 h (r.2).node;
+    releases = λ i f h. let r = row_at i f h in
+        release_balanced tree nodes lengths rows is_span amounts flow solved read solution i r.0 f r.1 h (r.2).node;
   }
 
   module _ (places : List ℤ) (latest : IsLatest (2 * length rows + 1) (arcs_from (2 * length rows) 0 rows) amounts
@@ -213,7 +194,7 @@ module _ (tree : Rows) (nodes lengths : List ℕ) (rows : List SpanRow) (amounts
       (releases : (k : ℕ) (row : SpanRow) → slice_get rows k ≡ Some row
       → pos (slots_before lengths (release row.node)) ≡ place places (2 * k + 1)) where
     are_places : ArePlaces tree nodes flow lock release
-    are_places = latest_are_places tree nodes lengths rows amounts is_span places latest lock release low locks releases
+    are_places = latest_are_places tree nodes lengths rows is_span amounts places latest flow read lock release low locks releases
 
     abbrev pub plan : List Step
     plan = laid_out tree (forced_nodes tree nodes) lock release (length nodes)

@@ -1,9 +1,9 @@
 -- The steps of the planner's loops, over plain variables.
-use Rattle.std.proofs.Common.{Fits, w32, ◌≡◌, ℕ, zero, suc, ◌+◌, ◌*◌, ◌<◌, ◌≤◌, ◌&&◌, ◌||◌, Bool, true, false, eqb, List, [], ◌∷◌, ◌++◌, map, length, take, drop, set, get_or, Some, None, ℤ, pos, ◌≤ℤ◌, refl, sym, ◌∙◌, ap, ap₂, subst, inl, inr, arith, append-nil, append_assoc, below_more, eq-eqb, ne_eqb, get_or-set_same, get_or-set_other}
+use Rattle.std.proofs.Common.{Fits, w32, ◌≡◌, ℕ, zero, suc, ◌+◌, ◌*◌, ◌<◌, ◌≤◌, ◌&&◌, ◌||◌, Bool, true, false, eqb, List, [], ◌∷◌, ◌++◌, map, length, take, drop, set, get_or, Some, None, ℤ, pos, ◌≤ℤ◌, refl, sym, ◌∙◌, ap, ap₂, subst, inl, inr, arith, append-nil, below_more, eq-eqb, ne_eqb, get_or-set_same, get_or-set_other}
 use Rattle.std.specs.Prelude.{slice_index}
 use Rattle.std.specs.List.{slice_get}
 use Rattle.std.specs.Option.{option_and_then}
-use Rattle.std.proofs.lemmas.List.{take_all, drop_all, at_drop_more, get_or_push}
+use Rattle.std.proofs.lemmas.List.{take_all, drop_all, get_or_push}
 use Rattle.std.proofs.lemmas.Int.{ints}
 use Rattle.std.proofs.Math.ListN.{get_or-append}
 use borrow.Author.Differences.{up}
@@ -13,9 +13,8 @@ use Rattle.std.proofs.lemmas.List.Edits.{map_over_more}
 use Rattle.std.proofs.lemmas.Bool.{cases_eq, and_right, and_from}
 use Rattle.grove_tree.specs.Trees.{is_at}
 use Rattle.grove_span.specs.declared.row.SpanRow.{SpanRow}
-use Rattle.grove_build.specs.declared.stays.Stay.{Stay}
 use Rattle.grove_build.specs.Networks.{lowered, IsGap, IsBetween}
-use Rattle.grove_build.specs.Stays.{is_needed, stay_of, stays_from}
+use Rattle.grove_build.specs.Stays.{is_needed}
 
 -- whether one more row needs the row at a place
 pub needed_more : (rows : List SpanRow) (gaps : List ℕ) (k j : ℕ) (row : SpanRow) → slice_get rows k ≡ Some row
@@ -136,17 +135,3 @@ slots_pushed lengths slots n after size so_far is gap le = elim (cases_eq gap (s
   | inl e ↦ rw e (get_or_push slots after 0 (suc n) size ∙ is)
   | inr ne ↦ get_or-append slots (after ∷ []) 0 gap (omega arith) ∙ so_far gap (omega arith)
 ]
-
--- the stay of one more row
-pub stay_more : (rows : List SpanRow) (gaps : List ℕ) (needed : List Bool) (stays more whole : List Stay) (k : ℕ)
-    (row : SpanRow) (stay : Stay)
-    → k < length rows → row ≡ get_or rows k row → stays ++ stays_from gaps needed k (drop k rows) ≡ whole
-    → more ≡ stays ++ stay ∷ [] → stay ≡ stay_of gaps needed k row
-    → more ++ stays_from gaps needed (k + 1) (drop (k + 1) rows) ≡ whole
-stay_more rows gaps needed stays more whole k row stay lt is so_far pushed same =
-    ap (λ front. front ++ stays_from gaps needed (k + 1) (drop (k + 1) rows)) pushed
-    ∙ (append_assoc stays (stay ∷ []) (stays_from gaps needed (k + 1) (drop (k + 1) rows))
-    ∙ (ap₂ (λ s n. stays ++ (s ∷ stays_from gaps needed n (drop (k + 1) rows))) same
-    (let next : k + 1 ≡ suc k = omega arith in next)
-    ∙ (ap (λ r. stays ++ stays_from gaps needed k (r ∷ drop (k + 1) rows)) is
-    ∙ (ap (λ back. stays ++ back) (sym (at_drop_more (stays_from gaps needed k) rows k row lt)) ∙ so_far))))

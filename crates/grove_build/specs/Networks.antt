@@ -1,7 +1,8 @@
--- For the proofs alone: the network of a list's nodes: arcs and needs in the rows' order, and the flow's rows read back
--- from amounts in that order.
-use Rattle.std.specs.Prelude.{◌≡◌, ℕ, ◌<◌, ◌≤◌, length, slice_get, map, ◌+◌, ◌*◌, suc, List, [], ◌∷◌, ◌++◌, slice_index}
-use Rattle.std.specs.Prelude.{Option, Some, None, ℤ, pos, neg_ℤ, int_lt, if◌then◌else◌, IfSome}
+-- For the proofs alone: the network of a list's nodes: for each row the arcs that it has, by their kinds, with what is sent
+-- along them as the rows of a flow; and what each lock and each release has, in the rows' order.
+use Rattle.std.specs.Prelude.{◌≡◌, ℕ, ◌<◌, ◌≤◌, length, slice_get, map, flat_map, ◌+◌, ◌*◌, suc, List, [], ◌∷◌, ◌++◌}
+use Rattle.std.specs.Prelude.{slice_index, Option, Some, None, ℤ, pos, neg_ℤ, int_lt, if◌then◌else◌}
+use Rattle.std.specs.List.{AllZip}
 use Rattle.grove_tree.specs.Trees.{Rows, weight_of, IsTree}
 use Rattle.grove_access.specs.Lists.{AreNodes}
 use Rattle.grove_access.specs.ListFaults.{AreLengths}
@@ -10,7 +11,8 @@ use Rattle.grove_access.specs.Forced.{forced_nodes}
 use Rattle.grove_proof.specs.declared.flow.FlowRow.{FlowRow}
 use Rattle.grove_span.specs.declared.row.SpanRow.{SpanRow}
 use Rattle.grove_span.specs.SpanRows.{node_of_row, HaveParents, HaveAccesses}
-use Rattle.grove_build.specs.declared.network.RowArcs.{RowArcs}
+use Rattle.grove_build.specs.declared.kinds.Kind.{Kind}
+use Rattle.grove_build.specs.declared.kinds.Kind.TheVariants.{Above, Held, First, Last, Own}
 use Rattle.grove_flow.specs.declared.network.Arc.{Arc}
 use Rattle.grove_flow.specs.Networks.{IsLatest, place}
 use Rattle.grove_flow.specs.Flows.{IsSolution}
@@ -18,26 +20,46 @@ use Rattle.grove_flow.specs.Flows.{IsSolution}
 abbrev pub arc : ℕ → ℕ → ℤ → Arc
 arc from to least = record { from = from; to = to; least = least }
 
--- the parent is locked no later than the node, and not released before the node is locked
-abbrev pub parent_arcs : ℕ → Option ℕ → List Arc
-parent_arcs k None = []
-parent_arcs k (Some parent) = arc (2 * parent) (2 * k) (pos 0) ∷ (arc (2 * k) (2 * parent + 1) (pos 0) ∷ [])
+-- where a row has an arc, the number of its parent, or of the slots before what bounds it
+abbrev pub bound : SpanRow → Kind → Option ℕ
+bound row Above = row.parent
+bound row Held = row.parent
+bound row First = row.from
+bound row Last = row.until
+bound row Own = Some 0
 
--- the node is locked before the slots of its first access
-abbrev pub first_arcs : ℕ → ℕ → Option ℕ → List Arc
-first_arcs base k None = []
-first_arcs base k (Some from) = arc (2 * k) base (neg_ℤ (pos from)) ∷ []
+-- The arc of the row at place k. The parent is locked no later than the node, and not released before the node is
+-- locked. The node is locked before the slots of its first access, and not released before those of its last are over.
+abbrev pub arc_to : ℕ → ℕ → Kind → ℕ → Arc
+arc_to base k Above parent = arc (2 * parent) (2 * k) (pos 0)
+arc_to base k Held parent = arc (2 * k) (2 * parent + 1) (pos 0)
+arc_to base k First from = arc (2 * k) base (neg_ℤ (pos from))
+arc_to base k Last until = arc base (2 * k + 1) (pos until)
+arc_to base k Own none = arc (2 * k) (2 * k + 1) (pos 0)
 
--- the node isn't released before those of its last access are over
-abbrev pub last_arcs : ℕ → ℕ → Option ℕ → List Arc
-last_arcs base k None = []
-last_arcs base k (Some until) = arc base (2 * k + 1) (pos until) ∷ []
+-- what a row of a flow sends along an arc
+abbrev pub amount_of : Kind → FlowRow → ℕ
+amount_of Above flow = flow.above
+amount_of Held flow = flow.held
+amount_of First flow = flow.first
+amount_of Last flow = flow.last
+amount_of Own flow = flow.own
+
+abbrev pub kinds : List Kind
+kinds = Above ∷ (Held ∷ (First ∷ (Last ∷ (Own ∷ []))))
+
+-- what something that may be missing gives
+abbrev pub part : {A : Type 0} → Option ℕ → (ℕ → A) → List A
+part None make = []
+part (Some x) make = make x ∷ []
+
+-- what the arcs of a row give, in the order of their kinds
+abbrev pub by_kind : {A : Type 0} → SpanRow → (Kind → ℕ → A) → List A
+by_kind row make = flat_map (λ kind. part (bound row kind) (make kind)) kinds
 
 -- the arcs of the row at place k
 abbrev pub row_arcs : ℕ → ℕ → SpanRow → List Arc
-row_arcs base k row =
-    parent_arcs k row.parent
-    ++ (first_arcs base k row.from ++ (last_arcs base k row.until ++ arc (2 * k) (2 * k + 1) (pos 0) ∷ []))
+row_arcs base k row = by_kind row (arc_to base k)
 
 -- the arcs of the rows from place k on
 abbrev pub arcs_from : ℕ → ℕ → List SpanRow → List Arc
@@ -48,18 +70,21 @@ arcs_from base k (row ∷ rows) = row_arcs base k row ++ arcs_from base (suc k) 
 abbrev pub weights_of : Rows → List SpanRow → List ℕ
 weights_of tree rows = map (λ row. weight_of tree row.node) rows
 
--- what each variable needs: each row's lock gives its weight, its release takes it, and the base does neither
+-- what each row's lock and release have, and at the end the base, which has 0
+abbrev pub pairs : {A : Type 0} → (A → ℤ) → (A → ℤ) → List A → List ℤ
+pairs lock release [] = pos 0 ∷ []
+pairs lock release (row ∷ rows) = lock row ∷ (release row ∷ pairs lock release rows)
+
+-- what each variable needs: a row's lock gives its weight, and its release takes it
 abbrev pub needs_from : List ℕ → List ℤ
-needs_from [] = pos 0 ∷ []
-needs_from (weight ∷ weights) = neg_ℤ (pos weight) ∷ (pos weight ∷ needs_from weights)
+needs_from weights = pairs (λ weight. neg_ℤ (pos weight)) (λ weight. pos weight) weights
 
 abbrev pub needs_of : Rows → List SpanRow → List ℤ
 needs_of tree rows = needs_from (weights_of tree rows)
 
 -- the places to begin from: every lock at 0, every release after all slots
 abbrev pub start_of : ℕ → List SpanRow → List ℤ
-start_of slots [] = pos 0 ∷ []
-start_of slots (row ∷ rows) = pos 0 ∷ (pos slots ∷ start_of slots rows)
+start_of slots rows = pairs (λ row. pos 0) (λ row. pos slots) rows
 
 -- a place, or the top where that is less
 abbrev pub lowered : ℤ → ℤ → ℤ
@@ -96,79 +121,43 @@ width (Some x) = 1
 abbrev pub row_width : SpanRow → ℕ
 row_width row = width row.parent + width row.parent + width row.from + width row.until + 1
 
--- the amount at a place, where there is the arc
-abbrev pub amount_if : Option ℕ → List ℕ → ℕ → ℕ
-amount_if None amounts at = 0
-amount_if (Some x) amounts at = slice_index amounts at
+-- the amounts that a row sends, in the order of its arcs
+abbrev pub row_amounts : SpanRow → FlowRow → List ℕ
+row_amounts row flow = by_kind row (λ kind x. amount_of kind flow)
 
--- the amounts of one row, which stand from a place on
-abbrev pub read_row : SpanRow → List ℕ → ℕ → FlowRow
-read_row row amounts at = record {
-  node = row.node;
-  above = amount_if row.parent amounts at;
-  held = amount_if row.parent amounts (at + 1);
-  first = amount_if row.from amounts (at + width row.parent + width row.parent);
-  last = amount_if row.until amounts (at + width row.parent + width row.parent + width row.from);
-  own = slice_index amounts (at + width row.parent + width row.parent + width row.from + width row.until);
-}
+-- those of all rows
+abbrev pub amounts_of : List SpanRow → List FlowRow → List ℕ
+amounts_of [] flow = []
+amounts_of (row ∷ rows) [] = []
+amounts_of (row ∷ rows) (read ∷ flow) = row_amounts row read ++ amounts_of rows flow
 
-abbrev pub read_rows : List SpanRow → List ℕ → ℕ → List FlowRow
-read_rows [] amounts at = []
-read_rows (row ∷ rows) amounts at = read_row row amounts at ∷ read_rows rows amounts (at + row_width row)
+-- a row of a flow that sends nothing where there is no arc
+pub record IsReadRow (row : SpanRow) (flow : FlowRow) : Type 0 where
+  pub node : flow.node ≡ row.node
+  pub none : (kind : Kind) → bound row kind ≡ None → amount_of kind flow ≡ 0
 
--- the number of an arc, where there is the arc
-abbrev pub arc_if : Option ℕ → ℕ → Option ℕ
-arc_if None at = None
-arc_if (Some x) at = Some at
+-- the flow's rows are these amounts, read in the order of the rows' arcs
+pub record IsRead (rows : List SpanRow) (amounts : List ℕ) (flow : List FlowRow) : Type 0 where
+  pub each : AllZip IsReadRow rows flow
+  pub whole : amounts_of rows flow ≡ amounts
 
--- the numbers of the arcs of one row, which are numbered from a place on
-abbrev pub row_names : SpanRow → ℕ → RowArcs
-row_names row at = record {
-  node = row.node;
-  above = arc_if row.parent at;
-  held = arc_if row.parent (at + 1);
-  first = arc_if row.from (at + width row.parent + width row.parent);
-  last = arc_if row.until (at + width row.parent + width row.parent + width row.from);
-  own = at + width row.parent + width row.parent + width row.from + width row.until;
-}
+-- what bounds a row's lock and release is no great number
+abbrev pub IsBounded : SpanRow → Type 0
+IsBounded row = (kind : Kind) (x : ℕ) → bound row kind ≡ Some x → x ≤ 64000
 
-abbrev pub names_from : List SpanRow → ℕ → List RowArcs
-names_from [] at = []
-names_from (row ∷ rows) at = row_names row at ∷ names_from rows (at + row_width row)
-
--- the amount along an arc, where there is the arc
-abbrev pub amount_at : List ℕ → Option ℕ → ℕ
-amount_at amounts None = 0
-amount_at amounts (Some arc) = slice_index amounts arc
-
--- the amounts of one row, read by its arcs' names
-abbrev pub read_named : List ℕ → RowArcs → FlowRow
-read_named amounts name = record {
-  node = name.node;
-  above = amount_at amounts name.above;
-  held = amount_at amounts name.held;
-  first = amount_at amounts name.first;
-  last = amount_at amounts name.last;
-  own = slice_index amounts name.own;
-}
-
--- the row's arcs are among the first n
-pub record IsNamedWithin (n : ℕ) (name : RowArcs) : Type 0 where
-  pub above : IfSome name.above (λ arc. arc < n)
-  pub held : IfSome name.held (λ arc. arc < n)
-  pub first : IfSome name.first (λ arc. arc < n)
-  pub last : IfSome name.last (λ arc. arc < n)
-  pub own : name.own < n
+abbrev pub AreBounded : List SpanRow → Type 0
+AreBounded rows = (i : ℕ) (row : SpanRow) → slice_get rows i ≡ Some row → IsBounded row
 
 -- each row's parent is one of the rows
 abbrev pub HaveOwnParents : List SpanRow → Type 0
 HaveOwnParents rows = (i j : ℕ) (row : SpanRow) → slice_get rows i ≡ Some row → row.parent ≡ Some j → j < length rows
 
--- The rows of a list over a tree: not too many, of nodes of the tree, with parents among themselves.
+-- The rows of a list over a tree: not too many, of nodes of the tree, with parents among themselves, and bounded.
 pub record AreRowsOf (tree : Rows) (rows : List SpanRow) : Type 0 where
   pub few : length rows ≤ 4096
   pub nodes : (i : ℕ) (row : SpanRow) → slice_get rows i ≡ Some row → row.node < length tree
   pub parents : HaveOwnParents rows
+  pub bounds : AreBounded rows
 
 -- the span of a list over a tree
 pub record IsSpan (tree : Rows) (nodes lengths : List ℕ) (rows : List SpanRow) : Type 0 where

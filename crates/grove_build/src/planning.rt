@@ -5,7 +5,7 @@ ghost use Rattle.grove_proof.specs.Flows.{IsCertificate};
 ghost use Rattle.grove_span.specs.SpanRows.{HaveWeights};
 ghost use Rattle.grove_build.specs.Batches.{IsPlanned};
 ghost use Rattle.grove_build.specs.Settled.{IsSettled};
-ghost use Rattle.grove_build.specs.Networks.{IsSpan, IsSolved, AreSlots, names_from, weights_of};
+ghost use Rattle.grove_build.specs.Networks.{IsSpan, IsSolved, AreSlots, weights_of};
 
 use crate::flow_rows::flow_rows;
 use crate::network::weights_of;
@@ -99,7 +99,6 @@ fn settle(
     requires span { IsSpan tree.now (nodes_of list.now) (lengths_of list.now) rows.now }
     requires weights { weights.now ≡ weights_of tree.now rows.now }
     requires slots { AreSlots (lengths_of list.now) (length (nodes_of list.now)) slots.now }
-    requires names { solved.now.names.items ≡ names_from rows.now 0 }
     requires solved { IsSolved tree.now (lengths_of list.now) (length (nodes_of list.now)) rows.now
         solved.now.amounts.items solved.now.gaps.items }
     ensures { IfOk result (IsPlanned tree.now list.now) }
@@ -110,7 +109,7 @@ fn settle(
     let needed = needed_of(alloc, rows, &solved.gaps)?;
     let stays = stays_of(alloc, rows, &solved.gaps, &needed)?;
     let steps = lay_out(alloc, &stays, accesses)?;
-    let flow = flow_rows(alloc, &solved.names, &solved.amounts)?;
+    let flow = flow_rows(alloc, rows, &solved.amounts)?;
     let cost = cost_of(weights, slots, &solved.gaps);
     Ok(Planned {
         plan: Plan::new(steps),

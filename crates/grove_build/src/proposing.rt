@@ -1,6 +1,6 @@
 use crate::costs::{Costs, Fall, Release, RowCost};
-use crate::network::{RowArcs, RowsNetwork};
-use grove_flow::Solution;
+use crate::kinds::Kind;
+use grove_flow::{Network, Solution};
 use grove_proof::FlowRow;
 use grove_span::SpanRow;
 use grove_tree::NoMemory;
@@ -23,25 +23,23 @@ struct Stand {
 /// Nothing is promised of it but that it is safe: whoever uses a proposal asks `is_solution`.
 pub fn propose(
     alloc: Global,
-    named: &RowsNetwork,
+    network: &Network,
     rows: &[SpanRow],
     slots: &[u32],
 ) -> Result<Solution, NoMemory> {
     let end = slots.len().saturating_sub(1);
-    let network = &named.network;
     let costs = Costs::new(alloc, rows, &network.needs, end)?;
     let mut solution = Solution {
-        amounts: vec![in alloc; 0u64; network.arcs.len()]?,
+        amounts: Vec::with_capacity(alloc, network.arcs.len())?,
         places: Vec::with_capacity(alloc, network.needs.len())?,
     };
-    go_down(alloc, named, rows, slots, &costs, &mut solution)?;
+    go_down(alloc, rows, slots, &costs, &mut solution)?;
     Ok(solution)
 }
 
 /// The walk's way down: lets each row stand where that costs least, and sends along its arcs.
 fn go_down(
     alloc: Global,
-    named: &RowsNetwork,
     rows: &[SpanRow],
     slots: &[u32],
     costs: &Costs,
@@ -51,9 +49,7 @@ fn go_down(
     let mut stands: Vec<Stand> = Vec::with_capacity(alloc, rows.len())?;
     for (k, row) in rows.iter().enumerate() {
         let (stand, flow) = stand_of(costs.of(k), costs.told(k), row, end, &mut stands);
-        if let Some(name) = named.names.get(k) {
-            send(&mut solution.amounts, name, &flow);
-        }
+        send(&mut solution.amounts, row, &flow)?;
         solution.places.push(slot_at(slots, stand.lock))?;
         solution.places.push(slot_at(slots, stand.release))?;
         stands.push(stand)?;
@@ -190,20 +186,25 @@ fn take_up_to(left: &mut i64, most: i64) -> i64 {
 }
 
 /// Sends the amounts along the row's arcs.
-fn send(amounts: &mut [u64], name: &RowArcs, flow: &FlowRow) {
-    send_along(amounts, name.above, flow.above);
-    send_along(amounts, name.held, flow.held);
-    send_along(amounts, name.first, flow.first);
-    send_along(amounts, name.last, flow.last);
-    send_along(amounts, Some(name.own), flow.own);
+fn send(amounts: &mut Vec<u64>, row: &SpanRow, flow: &FlowRow) -> Result<(), NoMemory> {
+    send_along(amounts, Kind::Above, row, flow)?;
+    send_along(amounts, Kind::Held, row, flow)?;
+    send_along(amounts, Kind::First, row, flow)?;
+    send_along(amounts, Kind::Last, row, flow)?;
+    send_along(amounts, Kind::Own, row, flow)?;
+    Ok(())
 }
 
-fn send_along(amounts: &mut [u64], arc: Option<usize>, sent: u64) {
-    if let Some(arc) = arc
-        && let Some(amount) = amounts.get_mut(arc)
-    {
-        *amount = sent;
+fn send_along(
+    amounts: &mut Vec<u64>,
+    kind: Kind,
+    row: &SpanRow,
+    flow: &FlowRow,
+) -> Result<(), NoMemory> {
+    if kind.bound(row).is_some() {
+        amounts.push(kind.amount(flow))?;
     }
+    Ok(())
 }
 
 fn slot_at(slots: &[u32], gap: usize) -> i64 {

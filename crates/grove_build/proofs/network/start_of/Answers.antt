@@ -1,7 +1,7 @@
-use Rattle.std.proofs.Common.{pos, refl, arith, ◌∙◌}
+use Rattle.std.proofs.Common.{pos, refl, arith, [], ◌∷◌, ◌++◌, ap, ◌∙◌}
 use Rattle.std.proofs.lemmas.Int.{ints}
 use Rattle.grove_build.specs.Networks.{start_of}
-use Rattle.grove_build.proofs.Pushes.{pair_more, rest_pushed}
+use Rattle.grove_build.proofs.Pushes.{pieces_more, rest_pushed}
 use Rattle.grove_build.proofs.network.start_of.Goals as goal
 
 pub loop-row-init : goal.loop-row-init
@@ -9,10 +9,10 @@ loop-row-init c = rw c.new-start.ensures.items refl
 
 pub loop-row-preserved : goal.loop-row-preserved
 loop-row-preserved c =
-    pair_more (start_of c.args.slots) (λ row. pos 0) (λ row. pos c.args.slots) (λ row rows. refl) c.args.rows.now
-    c.loop-row._row-index c._row-item.result c._row-item.result
-    c.loop-row.start.items c.push_pair.new.numbers.items _ _ _ c.loop-row-test.true c._row-item.is c.loop-row.invariant
-    c.in_ok-push_pair.ensures refl (omega (arith, ints))
+    pieces_more (λ k. start_of c.args.slots) (λ k row. pos 0 ∷ (pos c.args.slots ∷ [])) (λ k row rows. refl) c.args.rows.now
+    c.loop-row._row-index c._row-item.result c._row-item.result c.loop-row.start.items c.push_pair.new.numbers.items _
+    c.loop-row-test.true c._row-item.is c.loop-row.invariant
+    (c.in_ok-push_pair.ensures ∙ ap (λ release. c.loop-row.start.items ++ (pos 0 ∷ (release ∷ []))) (omega (arith, ints)))
 
 pub returns : goal.returns
 returns c =

@@ -28,8 +28,5 @@ settle-requires-clause-weights c = c.deref-3.ensures.value
 pub settle-requires-clause-slots : goal.settle-requires-clause-slots
 settle-requires-clause-slots c = rw (c.deref-4.ensures.value, nodes_length c.args.list.now) c.in_ok-slots.ensures
 
-pub settle-requires-clause-names : goal.settle-requires-clause-names
-settle-requires-clause-names c = c.in_ok-solved.ensures.names
-
 pub settle-requires-clause-solved : goal.settle-requires-clause-solved
-settle-requires-clause-solved c = c.in_ok-solved.ensures.solved
+settle-requires-clause-solved c = c.in_ok-solved.ensures

@@ -1,4 +1,5 @@
-use Rattle.std.proofs.Common.{◌≡◌, ℕ, ◌*◌, ◌+◌, ◌≤◌, ◌<◌, ◌++◌, List, length, map, false, ap, ap₂, sym, ◌∙◌, subst, arith, get_or}
+use Rattle.std.proofs.Common.{◌≡◌, ℕ, ◌*◌, ◌+◌, ◌≤◌, ◌<◌, ◌++◌, List, length, false, ap, ap₂, sym, ◌∙◌, subst, arith, get_or}
+use Rattle.std.proofs.lemmas.Slice.Zip.{AllZip-long}
 use Rattle.grove_base.proofs.Lists.{map_length}
 use Rattle.grove_tree.specs.Trees.{weight_of}
 use Rattle.grove_access.specs.Lists.{nodes_of, lengths_of}
@@ -8,11 +9,11 @@ use Rattle.grove_proof.specs.declared.flow.FlowRow.{FlowRow}
 use Rattle.grove_proof.specs.Flows.{IsCertificate}
 use Rattle.grove_span.specs.declared.row.SpanRow.{SpanRow}
 use Rattle.grove_build.specs.Settled.{IsSettled}
-use Rattle.grove_build.specs.Networks.{arcs_from, read_named, read_rows, weights_of, AreRowsOf}
+use Rattle.grove_build.specs.Networks.{weights_of, IsReadRow, AreRowsOf}
 use Rattle.grove_build.specs.Stays.{is_needed, stays_from, rows_cost, stay_steps, stay_steps_below}
 use Rattle.grove_build.proofs.Asked.{nodes_length, nodes_few, rows_of_span, weights_few, slots_few_each}
-use Rattle.grove_build.proofs.Answered.{gaps_size, gaps_within, gaps_fit, stays_within, steps_settle, steps_certified, steps_cost, steps_few, stays_length, read_length}
-use Rattle.grove_build.proofs.Named.{rows_named, names_within}
+use Rattle.grove_build.proofs.Answered.{gaps_size, gaps_within, gaps_fit, stays_within, steps_settle, steps_certified, steps_cost, steps_few, stays_length}
+use Rattle.grove_build.proofs.Links.{arcs_size}
 use Rattle.grove_build.proofs.planning.settle.Goals as goal
 
 pub needed_of-requires-clause-few : goal.needed_of-requires-clause-few
@@ -54,11 +55,8 @@ lay_out-requires-clause-within c =
     rw (stays, number) (stays_within c.args.tree.now (nodes_of c.args.list.now) (lengths_of c.args.list.now) c.args.rows.now c.args.solved.now.amounts.items c.args.solved.now.gaps.items c.requires.span c.requires.solved (nodes_few c.args.list.now c.len-accesses.ensures.few) c.in_ok-needed.needed.items)
 
 pub flow_rows-requires : goal.flow_rows-requires
-flow_rows-requires c =
-    let size : length c.args.solved.now.amounts.items ≡ length (arcs_from (2 * length c.args.rows.now) 0 c.args.rows.now) =
-    c.requires.solved.solution.amounts_size in
-    rw (c.deref-5.ensures.value, c.deref-6.ensures.value, c.requires.names)
-    (names_within c.args.rows.now (2 * length c.args.rows.now) 0 0 (length c.args.solved.now.amounts.items) (omega arith))
+flow_rows-requires c = ap length c.deref-5.ensures.value
+    ∙ (c.requires.solved.solution.amounts_size ∙ arcs_size (2 * length c.args.rows.now) 0 c.args.rows.now)
 
 pub cost_of-cost-requires-clause-few : goal.cost_of-cost-requires-clause-few
 cost_of-cost-requires-clause-few c =
@@ -73,16 +71,16 @@ cost_of-cost-requires-clause-light c =
 pub cost_of-cost-requires-clause-gaps : goal.cost_of-cost-requires-clause-gaps
 cost_of-cost-requires-clause-gaps c =
     let many : length c.args.weights.now ≡ length c.args.rows.now = ap length c.requires.weights ∙ map_length (λ (row : SpanRow). weight_of c.args.tree.now row.node) c.args.rows.now in
-    ap length c.deref-7.ensures.value ∙ (gaps_size c.args.tree.now (nodes_of c.args.list.now) (lengths_of c.args.list.now) c.args.rows.now c.args.solved.now.amounts.items c.args.solved.now.gaps.items c.requires.span c.requires.solved (nodes_few c.args.list.now c.len-accesses.ensures.few) ∙ ap (λ n. 2 * n + 1) (sym many))
+    ap length c.deref-6.ensures.value ∙ (gaps_size c.args.tree.now (nodes_of c.args.list.now) (lengths_of c.args.list.now) c.args.rows.now c.args.solved.now.amounts.items c.args.solved.now.gaps.items c.requires.span c.requires.solved (nodes_few c.args.list.now c.len-accesses.ensures.few) ∙ ap (λ n. 2 * n + 1) (sym many))
 
 pub cost_of-cost-requires-clause-within : goal.cost_of-cost-requires-clause-within
 cost_of-cost-requires-clause-within c =
-    rw c.deref-7.ensures.value (λ v lt. gaps_within c.args.tree.now (nodes_of c.args.list.now) (lengths_of c.args.list.now) c.args.rows.now c.args.solved.now.amounts.items c.args.solved.now.gaps.items c.requires.span c.requires.solved (nodes_few c.args.list.now c.len-accesses.ensures.few) c.args.slots.now c.requires.slots v lt)
+    rw c.deref-6.ensures.value (λ v lt. gaps_within c.args.tree.now (nodes_of c.args.list.now) (lengths_of c.args.list.now) c.args.rows.now c.args.solved.now.amounts.items c.args.solved.now.gaps.items c.requires.span c.requires.solved (nodes_few c.args.list.now c.len-accesses.ensures.few) c.args.slots.now c.requires.slots v lt)
 
 pub cost_of-cost-requires-clause-own : goal.cost_of-cost-requires-clause-own
 cost_of-cost-requires-clause-own c =
     let many : length c.args.weights.now ≡ length c.args.rows.now = ap length c.requires.weights ∙ map_length (λ (row : SpanRow). weight_of c.args.tree.now row.node) c.args.rows.now in
-    rw c.deref-7.ensures.value (λ k lt. gaps_fit c.args.tree.now (nodes_of c.args.list.now) (lengths_of c.args.list.now) c.args.rows.now c.args.solved.now.amounts.items c.args.solved.now.gaps.items c.requires.span c.requires.solved (nodes_few c.args.list.now c.len-accesses.ensures.few) c.args.slots.now c.requires.slots k (omega arith))
+    rw c.deref-6.ensures.value (λ k lt. gaps_fit c.args.tree.now (nodes_of c.args.list.now) (lengths_of c.args.list.now) c.args.rows.now c.args.solved.now.amounts.items c.args.solved.now.gaps.items c.requires.span c.requires.solved (nodes_few c.args.list.now c.len-accesses.ensures.few) c.in_ok-flow.flow.items (rw c.deref-5.ensures.value at c.in_ok-flow.ensures) c.args.slots.now c.requires.slots k (omega arith))
 
 pub cost_of-cost-requires-clause-end : goal.cost_of-cost-requires-clause-end
 cost_of-cost-requires-clause-end c =
@@ -106,12 +104,8 @@ new-requires c =
 pub new-requires-2 : goal.new-requires-2
 new-requires-2 c =
     let of : AreRowsOf c.args.tree.now c.args.rows.now = rows_of_span c.args.tree.now (nodes_of c.args.list.now) (lengths_of c.args.list.now) c.args.rows.now c.requires.span c.len-nodes.ensures.limits (nodes_few c.args.list.now c.len-accesses.ensures.few) in
-    let flow : c.in_ok-flow.flow.items ≡ read_rows c.args.rows.now c.args.solved.now.amounts.items 0 =
-    c.in_ok-flow.ensures
-    ∙ (ap₂ (λ a n. map (read_named a) n) c.deref-6.ensures.value (c.deref-5.ensures.value ∙ c.requires.names)
-    ∙ rows_named c.args.rows.now c.args.solved.now.amounts.items 0) in
     let most : length c.args.rows.now ≤ 4096 = of.few in
-    let n : length c.in_ok-flow.flow.items ≡ length c.args.rows.now = ap length flow ∙ read_length c.args.rows.now c.args.solved.now.amounts.items 0 in
+    let n : length c.in_ok-flow.flow.items ≡ length c.args.rows.now = AllZip-long IsReadRow c.args.rows.now c.in_ok-flow.flow.items c.in_ok-flow.ensures.each in
     let len : c.in_ok-flow.flow.len ≡ length c.in_ok-flow.flow.items = c.in_ok-flow.flow.ok.0 in
     omega arith
 
@@ -122,26 +116,22 @@ returns c =
     let number : c.len-accesses.result ≡ length (nodes_of c.args.list.now) = c.len-accesses.ensures.number ∙ sym (nodes_length c.args.list.now) in
     let laid : c.in_ok-steps.steps.items ≡ stay_steps_below (stays_from c.args.solved.now.gaps.items c.in_ok-needed.needed.items 0 c.args.rows.now) (length (nodes_of c.args.list.now)) ++ stay_steps (stays_from c.args.solved.now.gaps.items c.in_ok-needed.needed.items 0 c.args.rows.now) (length (nodes_of c.args.list.now)) =
     c.in_ok-steps.ensures ∙ ap₂ (λ s n. stay_steps_below s n ++ stay_steps s n) (c.deref-4.ensures.value ∙ stays) number in
-    let flow : c.in_ok-flow.flow.items ≡ read_rows c.args.rows.now c.args.solved.now.amounts.items 0 =
-    c.in_ok-flow.ensures
-    ∙ (ap₂ (λ a n. map (read_named a) n) c.deref-6.ensures.value (c.deref-5.ensures.value ∙ c.requires.names)
-    ∙ rows_named c.args.rows.now c.args.solved.now.amounts.items 0) in
     let many : length c.args.weights.now ≡ length c.args.rows.now = ap length c.requires.weights ∙ map_length (λ (row : SpanRow). weight_of c.args.tree.now row.node) c.args.rows.now in
     let marked : (j : ℕ) → j < length c.args.rows.now → get_or c.in_ok-needed.needed.items j false ≡ is_needed c.args.rows.now c.args.solved.now.gaps.items (length c.args.rows.now) j =
     λ j lt. c.in_ok-needed.ensures.needed j lt ∙ ap (λ g. is_needed c.args.rows.now g (length c.args.rows.now) j) c.deref.ensures.value in
     let plan = c.new.ensures ∙ laid in
     let P : List Step → Type 0 = λ p. IsSettled c.args.tree.now (nodes_of c.args.list.now) (lengths_of c.args.list.now) p in
-    let Q : List Step → Type 0 = λ p. IsCertificate c.args.tree.now (nodes_of c.args.list.now) (lengths_of c.args.list.now) (read_rows c.args.rows.now c.args.solved.now.amounts.items 0) (cost c.args.tree.now (lengths_of c.args.list.now) p) in
+    let Q : List Step → Type 0 = λ p. IsCertificate c.args.tree.now (nodes_of c.args.list.now) (lengths_of c.args.list.now) c.in_ok-flow.flow.items (cost c.args.tree.now (lengths_of c.args.list.now) p) in
     let S : List FlowRow → Type 0 = λ f. IsCertificate c.args.tree.now (nodes_of c.args.list.now) (lengths_of c.args.list.now) f (cost c.args.tree.now (lengths_of c.args.list.now) c.new.result) in
     let priced : c.cost_of-cost.result ≡ rows_cost (weights_of c.args.tree.now c.args.rows.now) c.args.slots.now c.args.solved.now.gaps.items (length c.args.rows.now) =
     c.cost_of-cost.ensures
-    ∙ (ap₂ (λ w g. rows_cost w c.args.slots.now g (length c.args.weights.now)) c.requires.weights c.deref-7.ensures.value
+    ∙ (ap₂ (λ w g. rows_cost w c.args.slots.now g (length c.args.weights.now)) c.requires.weights c.deref-6.ensures.value
     ∙ ap (λ n. rows_cost (weights_of c.args.tree.now c.args.rows.now) c.args.slots.now c.args.solved.now.gaps.items n) many) in
     let settled : IsSettled c.args.tree.now (nodes_of c.args.list.now) (lengths_of c.args.list.now) c.new.result =
     subst P (sym plan) (steps_settle c.args.tree.now (nodes_of c.args.list.now) (lengths_of c.args.list.now)
     c.args.rows.now
     c.args.solved.now.amounts.items c.args.solved.now.gaps.items c.requires.span c.requires.solved
-    (nodes_few c.args.list.now c.len-accesses.ensures.few) c.len-nodes.ensures.limits c.in_ok-needed.needed.items
+    (nodes_few c.args.list.now c.len-accesses.ensures.few) c.len-nodes.ensures.limits c.in_ok-flow.flow.items (rw c.deref-5.ensures.value at c.in_ok-flow.ensures) c.in_ok-needed.needed.items
     marked) in
     record {
       settled = settled;
@@ -149,8 +139,8 @@ returns c =
       priced = priced ∙ (steps_cost c.args.tree.now (nodes_of c.args.list.now) (lengths_of c.args.list.now)
           c.args.rows.now
           c.args.solved.now.amounts.items c.args.solved.now.gaps.items c.requires.span c.requires.solved
-          (nodes_few c.args.list.now c.len-accesses.ensures.few) c.len-nodes.ensures.limits c.in_ok-needed.needed.items marked c.args.slots.now c.requires.slots ∙ ap (λ p. cost c.args.tree.now (lengths_of c.args.list.now) p) (sym plan));
-      certificate = subst S (sym (c.new-2.ensures ∙ flow)) (subst Q (sym plan) (steps_certified c.args.tree.now (nodes_of c.args.list.now) (lengths_of c.args.list.now) c.args.rows.now
+          (nodes_few c.args.list.now c.len-accesses.ensures.few) c.len-nodes.ensures.limits c.in_ok-flow.flow.items (rw c.deref-5.ensures.value at c.in_ok-flow.ensures) c.in_ok-needed.needed.items marked c.args.slots.now c.requires.slots ∙ ap (λ p. cost c.args.tree.now (lengths_of c.args.list.now) p) (sym plan));
+      certificate = subst S (sym c.new-2.ensures) (subst Q (sym plan) (steps_certified c.args.tree.now (nodes_of c.args.list.now) (lengths_of c.args.list.now) c.args.rows.now
           c.args.solved.now.amounts.items c.args.solved.now.gaps.items c.requires.span c.requires.solved
-          (nodes_few c.args.list.now c.len-accesses.ensures.few) c.len-nodes.ensures.limits c.in_ok-needed.needed.items marked));
+          (nodes_few c.args.list.now c.len-accesses.ensures.few) c.len-nodes.ensures.limits c.in_ok-flow.flow.items (rw c.deref-5.ensures.value at c.in_ok-flow.ensures) c.in_ok-needed.needed.items marked));
     }

@@ -17,14 +17,14 @@ network_of-requires c =
     let of : AreRowsOf c.args.tree.now c.args.rows.now =
     rows_of_span c.args.tree.now (nodes_of c.args.list.now) (lengths_of c.args.list.now) c.args.rows.now c.requires.span c.len-nodes.ensures.limits
     (nodes_few c.args.list.now c.len-accesses.ensures.few) in
-    record { few = of.few; parents = of.parents }
+    record { few = of.few; bounds = of.bounds }
 
 pub solution_of-requires-clause-needs : goal.solution_of-requires-clause-needs
-solution_of-requires-clause-needs c = c.in_ok-named.ensures.needs ∙ ap needs_from c.requires.weights
+solution_of-requires-clause-needs c = c.in_ok-network.ensures.needs ∙ ap needs_from c.requires.weights
 
 pub latest-requires-clause-arcs : goal.latest-requires-clause-arcs
 latest-requires-clause-arcs c =
-    rw (c.in_ok-named.ensures.needs, c.requires.weights, c.in_ok-named.ensures.arcs)
+    rw (c.in_ok-network.ensures.needs, c.requires.weights, c.in_ok-network.ensures.arcs)
     (is_network c.args.tree.now (nodes_of c.args.list.now) (lengths_of c.args.list.now) c.args.rows.now c.requires.span c.len-nodes.ensures.limits
     (nodes_few c.args.list.now c.len-accesses.ensures.few)).arcs_of
 
@@ -58,9 +58,9 @@ latest-requires-clause-solved c =
     sym c.deref_mut.ensures.len ∙ (ap length c.deref_mut.ensures.value ∙ sym long) in
     let whole = take_whole c.lower.new.places c.in_ok-solution.solution.places.items
     c.in_ok-solution.solution.places.len len (sym long) in
-    let solution = rw (c.in_ok-named.ensures.needs, c.requires.weights, c.in_ok-named.ensures.arcs) at
+    let solution = rw (c.in_ok-network.ensures.needs, c.requires.weights, c.in_ok-network.ensures.arcs) at
     c.in_ok-solution.ensures in
-    rw (whole, places, (top_is c.args.list.now c.args.slots.now c.from.result c.len-accesses.ensures.few c.requires.span.are_lengths c.requires.slots c.from.ensures).0, c.in_ok-named.ensures.needs, c.requires.weights, c.in_ok-named.ensures.arcs)
+    rw (whole, places, (top_is c.args.list.now c.args.slots.now c.from.result c.len-accesses.ensures.few c.requires.span.are_lengths c.requires.slots c.from.ensures).0, c.in_ok-network.ensures.needs, c.requires.weights, c.in_ok-network.ensures.arcs)
     (lowered_candidate c.args.tree.now (nodes_of c.args.list.now) (lengths_of c.args.list.now) c.args.rows.now c.requires.span
     c.len-nodes.ensures.limits (nodes_few c.args.list.now c.len-accesses.ensures.few) c.in_ok-solution.solution.amounts.items
     c.in_ok-solution.solution.places.items solution)
@@ -76,19 +76,19 @@ gaps_of-requires-clause-rising c =
 
 pub gaps_of-requires-clause-between : goal.gaps_of-requires-clause-between
 gaps_of-requires-clause-between c =
-    let latest = rw ((top_is c.args.list.now c.args.slots.now c.from.result c.len-accesses.ensures.few c.requires.span.are_lengths c.requires.slots c.from.ensures).0, c.in_ok-named.ensures.needs, c.requires.weights, c.in_ok-named.ensures.arcs, needs_size c.args.tree.now c.args.rows.now)
+    let latest = rw ((top_is c.args.list.now c.args.slots.now c.from.result c.len-accesses.ensures.few c.requires.span.are_lengths c.requires.slots c.from.ensures).0, c.in_ok-network.ensures.needs, c.requires.weights, c.in_ok-network.ensures.arcs, needs_size c.args.tree.now c.args.rows.now)
     at c.in_ok-places.ensures.latest in
     rw c.deref.ensures.value
     (latest_between c.args.tree.now (nodes_of c.args.list.now) (lengths_of c.args.list.now) c.args.rows.now c.requires.span
     c.len-nodes.ensures.limits (nodes_few c.args.list.now c.len-accesses.ensures.few) c.args.slots.now c.in_ok-solution.solution.amounts.items c.in_ok-places.places.items
     c.requires.slots latest)
 
-pub returns-clause-solved : goal.returns-clause-solved
-returns-clause-solved c = record {
+pub returns : goal.returns
+returns c = record {
   solved = c.in_ok-solution.solution.places.items;
-  solution = rw (c.in_ok-named.ensures.needs, c.requires.weights, c.in_ok-named.ensures.arcs) at c.in_ok-solution.ensures;
+  solution = rw (c.in_ok-network.ensures.needs, c.requires.weights, c.in_ok-network.ensures.arcs) at c.in_ok-solution.ensures;
   places = c.in_ok-places.places.items;
-  latest = rw ((top_is c.args.list.now c.args.slots.now c.from.result c.len-accesses.ensures.few c.requires.span.are_lengths c.requires.slots c.from.ensures).0, c.in_ok-named.ensures.needs, c.requires.weights, c.in_ok-named.ensures.arcs, needs_size c.args.tree.now c.args.rows.now)
+  latest = rw ((top_is c.args.list.now c.args.slots.now c.from.result c.len-accesses.ensures.few c.requires.span.are_lengths c.requires.slots c.from.ensures).0, c.in_ok-network.ensures.needs, c.requires.weights, c.in_ok-network.ensures.arcs, needs_size c.args.tree.now c.args.rows.now)
       at c.in_ok-places.ensures.latest;
   are_gaps = gaps_are (lengths_of c.args.list.now) c.args.slots.now c.in_ok-gaps.gaps.items (length (nodes_of c.args.list.now)) c.in_ok-places.places.items
       c.requires.slots (c.in_ok-gaps.ensures.size ∙ ap length c.deref.ensures.value) (rw c.deref.ensures.value at c.in_ok-gaps.ensures.gaps);

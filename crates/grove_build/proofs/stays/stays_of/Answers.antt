@@ -1,14 +1,14 @@
-use Rattle.std.proofs.Common.{refl}
-use Rattle.grove_build.specs.Stays.{stays_from}
-use Rattle.grove_build.proofs.Pushes.{all_pushed}
-use Rattle.grove_build.proofs.Walks.{stay_more}
+use Rattle.std.proofs.Common.{[], ◌∷◌, ◌++◌, refl, ap, ◌∙◌}
+use Rattle.grove_build.specs.Stays.{stay_of, stays_from}
+use Rattle.grove_build.proofs.Pushes.{pieces_more, all_pushed}
 use Rattle.grove_build.proofs.stays.stays_of.Goals as goal
 
 pub loop-k-preserved : goal.loop-k-preserved
 loop-k-preserved c =
-    stay_more c.args.rows.now c.args.gaps.now c.args.needed.now c.loop-k.stays.items c.push.new.self.items _ c.loop-k.k
-    c.index-rows-k.result c.stay_of.result
-    c.loop-k-test.true c.index-rows-k.is c.loop-k.invariant c.in_ok-push.ensures.items c.stay_of.ensures
+    pieces_more (stays_from c.args.gaps.now c.args.needed.now) (λ k row. stay_of c.args.gaps.now c.args.needed.now k row ∷ [])
+    (λ k row rows. refl) c.args.rows.now c.loop-k.k c.index-rows-k.result c.index-rows-k.result c.loop-k.stays.items
+    c.push.new.self.items _ c.loop-k-test.true c.index-rows-k.is c.loop-k.invariant
+    (c.in_ok-push.ensures.items ∙ ap (λ stay. c.loop-k.stays.items ++ stay ∷ []) c.stay_of.ensures)
 
 pub returns : goal.returns
 returns c =
