@@ -30,6 +30,49 @@ pub(crate) enum Form {
 /// The name of a member or an item, and what has to stand there.
 type Named = (&'static str, Form);
 
+static GET: [Named; 2] = [("path", Form::Path), ("length", Form::Length)];
+
+static CHANGE: [Named; 3] = [
+    ("path", Form::Path),
+    ("number", Form::Signed),
+    ("length", Form::Length),
+];
+
+static DOCUMENT: [Named; 9] = [
+    ("version", Form::Version),
+    ("nodes", Form::Array),
+    ("list", Form::Array),
+    ("lists", Form::Lists),
+    ("plan", Form::Array),
+    ("flow", Form::Array),
+    ("jobs", Form::Array),
+    ("events", Form::Array),
+    ("standing", Form::Standing),
+];
+
+static CHECK: [Named; 4] = [
+    ("version", Form::Version),
+    ("list", Form::Array),
+    ("plan", Form::Array),
+    ("flow", Form::Array),
+];
+
+static ROW: [Named; 4] = [
+    ("parent", Form::Parent),
+    ("name", Form::Text),
+    ("weight", Form::Weight),
+    ("value", Form::Signed),
+];
+
+static FLOW_ROW: [Named; 6] = [
+    ("node", Form::Text),
+    ("above", Form::Amount),
+    ("held", Form::Amount),
+    ("first", Form::Amount),
+    ("last", Form::Amount),
+    ("own", Form::Amount),
+];
+
 /// May the member or item be absent?
 pub(crate) fn may_lack(name: &str) -> bool {
     matches!(name, "version" | "value" | "length")
@@ -39,56 +82,15 @@ impl Form {
     /// Its members, or its items after the first word.
     pub(crate) fn parts(self, word: &str) -> &'static [Named] {
         match (self, word) {
-            (Form::Access, "get") => &[("path", Form::Path), ("length", Form::Length)],
-            (Form::Access, _) => {
-                &[
-                    ("path", Form::Path),
-                    ("number", Form::Signed),
-                    ("length", Form::Length),
-                ]
-            }
+            (Form::Access, "get") => &GET,
+            (Form::Access, _) => &CHANGE,
             (Form::Step, "access") => &[("access", Form::Short)],
             (Form::Step, _) => &[("path", Form::Path)],
             (Form::Event, _) => &[("job", Form::Short)],
-            (Form::Document, _) => {
-                &[
-                    ("version", Form::Version),
-                    ("nodes", Form::Array),
-                    ("list", Form::Array),
-                    ("lists", Form::Lists),
-                    ("plan", Form::Array),
-                    ("flow", Form::Array),
-                    ("jobs", Form::Array),
-                    ("events", Form::Array),
-                    ("standing", Form::Standing),
-                ]
-            }
-            (Form::Check, _) => {
-                &[
-                    ("version", Form::Version),
-                    ("list", Form::Array),
-                    ("plan", Form::Array),
-                    ("flow", Form::Array),
-                ]
-            }
-            (Form::Row, _) => {
-                &[
-                    ("parent", Form::Parent),
-                    ("name", Form::Text),
-                    ("weight", Form::Weight),
-                    ("value", Form::Signed),
-                ]
-            }
-            (Form::FlowRow, _) => {
-                &[
-                    ("node", Form::Text),
-                    ("above", Form::Amount),
-                    ("held", Form::Amount),
-                    ("first", Form::Amount),
-                    ("last", Form::Amount),
-                    ("own", Form::Amount),
-                ]
-            }
+            (Form::Document, _) => &DOCUMENT,
+            (Form::Check, _) => &CHECK,
+            (Form::Row, _) => &ROW,
+            (Form::FlowRow, _) => &FLOW_ROW,
             (Form::Job, _) => &[("list", Form::Array), ("plan", Form::Array)],
             (Form::Standing, _) => &[("records", Form::Array), ("replies", Form::Array)],
             _ => &[],
