@@ -118,6 +118,19 @@ frame_less before bytes payload after e =
     none_some : (x : List ℕ × List ℕ) → ◌≡◌ {A = Option (List ℕ × List ℕ)} None (Some x) → ⊥
     none_some x e = cc
 
+-- where a digest stands as it ought to, with what is behind it
+pub sealed_is : (before payload tail found behind : List ℕ)
+    → sealed_at (digest before payload) payload tail ≡ Some (found, behind)
+    → (payload ≡ found) × (tail ≡ digest before payload ++ behind)
+unfolding sealed_at
+sealed_is before payload tail found behind e =
+    let seal = digest before payload in
+    let s = cond_some (starts_with eqb tail seal) (payload, drop (length seal) tail) (found, behind) e in (
+      ap (λ (x : List ℕ × List ℕ). x.0) s.1,
+      (starts_is Decides-eqb tail seal _ refl).0 s.0
+          ∙ ap (λ (l : List ℕ). seal ++ l) (ap (λ (x : List ℕ × List ℕ). x.1) s.1),
+    )
+
 -- ---- a frame passes
 
 sealed_again : (seal payload rest : List ℕ) → sealed_at seal payload (seal ++ rest) ≡ Some (payload, rest)

@@ -1,4 +1,4 @@
--- Reading goes on behind a frame that passes, and ends where none does.
+-- Reading goes on behind a frame that passes, and ends where none does: there all bytes are left.
 use Rattle.std.proofs.Common.{◌≡◌, ℕ, zero, suc, ◌<◌, ◌≤◌, List, [], ◌∷◌, ◌++◌, length, Option, Some, None, refl, sym}
 use Rattle.std.proofs.Common.{ap}
 use Rattle.std.proofs.Common.{◌∙◌, arith, inl, inr}
@@ -69,3 +69,45 @@ reading_more before bytes payload after found = at (length bytes) refl
         ap (going_on n before bytes) found
         ∙ ap (with_payload payload) (enough n (length after) (digest before payload) after
         (omega (arith, frame_less before bytes payload after found)) (omega arith))
+
+-- ---- what is left
+
+no_more : (most : ℕ) (before bytes : List ℕ) → length (read_at most before bytes).rest ≤ length bytes
+unfolding read_at
+no_more zero before bytes = omega arith
+no_more (suc most) before bytes =
+    elim (is_found (frame_at before bytes)) [
+      | inl none ↦ omega (arith, ap (λ (r : Reading). length r.rest) (none_read (suc most) before bytes none))
+      | inr found ↦ omega (
+        arith,
+        ap (λ (r : Reading). length r.rest) (ap (going_on most before bytes) found.1),
+        no_more most (digest before found.0.0) found.0.1,
+        frame_less before bytes found.0.0 found.0.1 found.1,
+      )
+    ]
+
+-- where all bytes are left there was no frame
+pub all_left : (before bytes : List ℕ) → length (reading before bytes).rest ≡ length bytes
+    → (reading before bytes).payloads ≡ []
+all_left before bytes all =
+    elim (is_found (frame_at before bytes)) [
+      | inl none ↦ ap (λ (r : Reading). r.payloads) (reading_none before bytes none)
+      | inr found ↦
+          let here = reading_more before bytes found.0.0 found.0.1 found.1 in
+          absurd (omega (
+            arith,
+            all,
+            ap (λ (r : Reading). length r.rest) here,
+            no_more (length found.0.1) (digest before found.0.0) found.0.1,
+            frame_less before bytes found.0.0 found.0.1 found.1,
+          ))
+    ]
+
+-- and where others are, one passes
+pub less_left : (before bytes : List ℕ) → (length (reading before bytes).rest ≡ length bytes → ⊥)
+    → (payload after : List ℕ) × (frame_at before bytes ≡ Some (payload, after))
+less_left before bytes less =
+    elim (is_found (frame_at before bytes)) [
+      | inl none ↦ absurd (less (ap (λ (r : Reading). length r.rest) (reading_none before bytes none)))
+      | inr found ↦ (found.0.0, found.0.1, found.1)
+    ]

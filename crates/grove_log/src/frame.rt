@@ -1,6 +1,7 @@
 //! Frames: how one is made, and what passes for one.
-ghost use Rattle.std.specs.Prelude.{◌≡◌, ◌<◌, ◌≤◌, ◌^◌, ◌++◌, length, IfSome, OnOk, MatchOption, None, Some};
-ghost use Rattle.grove_log.specs.Frames.{digest, size, size_at, body_at, frame_at, has_frame};
+ghost use Rattle.std.specs.Prelude.{◌≡◌, ◌<◌, ◌≤◌, ◌^◌, ◌++◌, List, ℕ, length, IfSome, OnOk, IsSome, MatchOption, None};
+ghost use Rattle.std.specs.Prelude.{Some};
+ghost use Rattle.grove_log.specs.Frames.{digest, size, size_at, sealed_at, frame_at, has_frame};
 
 use grove_base::NoMemory;
 use sha2::{Digest, Sha256};
@@ -23,7 +24,24 @@ pub(crate) struct Passed<'a> {
     pub behind: &'a [u8],
 }
 
+/// What may be a frame, of whose digest nothing is known.
+#[derive(Drop)]
+struct Unsealed<'a> {
+    payload: &'a [u8],
+    tail: &'a [u8],
+}
+
 impl Seal {
+    /// The digest that these bytes are.
+    pub(crate) fn copied(digest: &[u8]) -> Seal
+        requires { length digest.now ≡ 32 }
+        ensures { result.bytes ≡ digest.now }
+    {
+        let mut bytes = [0; 32];
+        bytes.copy_from_slice(digest);
+        Seal { bytes }
+    }
+
     /// The digest that chains a payload to this one.
     #[tactic(auto, unfolding(crate::specs::Frames::digest))]
     pub(crate) fn of(before: &[u8], payload: &[u8]) -> Seal
@@ -70,17 +88,30 @@ pub(crate) fn size_at(bytes: &[u8]) -> Option<usize>
     }
 }
 
-/// The frame of a payload of this length.
-#[tactic(auto, unfolding(crate::specs::Frames::body_at, crate::specs::Frames::sealed_at))]
-fn body_at<'a>(before: &[u8], body: &'a [u8], len: usize) -> Option<Passed<'a>>
-    ensures { MatchOption result (body_at before.now body.now len ≡ None)
-        (λ passed. (body_at before.now body.now len ≡ Some (passed.payload.now, passed.behind.now))
-        × (passed.seal.bytes ≡ digest before.now passed.payload.now)) }
+/// The payload that the length at the front is of, and the bytes behind it.
+#[tactic(auto, unfolding(crate::specs::Frames::frame_at, crate::specs::Frames::body_at))]
+fn unsealed_at(bytes: &[u8]) -> Option<Unsealed<'_>>
+    ensures { (before : List ℕ) → MatchOption result (frame_at before bytes.now ≡ None)
+        (λ cut. frame_at before bytes.now
+        ≡ sealed_at (digest before cut.payload.now) cut.payload.now cut.tail.now) }
 {
+    let len = size_at(bytes)?;
+    let (_, body) = bytes.split_at(SIZE);
     if body.len() < len {
         return None;
     }
     let (payload, tail) = body.split_at(len);
+    Some(Unsealed { payload, tail })
+}
+
+/// The frame at the front that is chained to a digest.
+#[tactic(auto, unfolding(crate::specs::Frames::sealed_at))]
+pub(crate) fn frame_at<'a>(before: &[u8], bytes: &'a [u8]) -> Option<Passed<'a>>
+    ensures { MatchOption result (frame_at before.now bytes.now ≡ None)
+        (λ passed. (frame_at before.now bytes.now ≡ Some (passed.payload.now, passed.behind.now))
+        × (passed.seal.bytes ≡ digest before.now passed.payload.now)) }
+{
+    let Unsealed { payload, tail } = unsealed_at(bytes)?;
     let seal = Seal::of(before, payload);
     if !tail.starts_with(&seal.bytes) {
         return None;
@@ -93,16 +124,22 @@ fn body_at<'a>(before: &[u8], body: &'a [u8], len: usize) -> Option<Passed<'a>>
     })
 }
 
-/// The frame at the front that is chained to a digest.
-#[tactic(auto, unfolding(crate::specs::Frames::frame_at))]
-pub(crate) fn frame_at<'a>(before: &[u8], bytes: &'a [u8]) -> Option<Passed<'a>>
-    ensures { MatchOption result (frame_at before.now bytes.now ≡ None)
-        (λ passed. (frame_at before.now bytes.now ≡ Some (passed.payload.now, passed.behind.now))
-        × (passed.seal.bytes ≡ digest before.now passed.payload.now)) }
+/// The frame at the front, where it is known that one passes: its digest is the one that stands there.
+pub(crate) fn passed_at(bytes: &[u8]) -> Option<Passed<'_>>
+    ensures { (before payload behind : List ℕ) → frame_at before bytes.now ≡ Some (payload, behind)
+        → IsSome result × IfSome result (λ passed. (passed.payload.now ≡ payload)
+        × (passed.seal.bytes ≡ digest before payload) × (passed.behind.now ≡ behind)) }
 {
-    let len = size_at(bytes)?;
-    let (_, body) = bytes.split_at(SIZE);
-    body_at(before, body, len)
+    let Unsealed { payload, tail } = unsealed_at(bytes)?;
+    if tail.len() < 32 {
+        return None;
+    }
+    let (digest, behind) = tail.split_at(32);
+    Some(Passed {
+        payload,
+        seal: Seal::copied(digest),
+        behind,
+    })
 }
 
 /// Is a frame at the front that is chained to a digest?

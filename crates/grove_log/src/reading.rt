@@ -5,7 +5,7 @@ ghost use Rattle.grove_log.specs.Files.{head, recovered, number_of, head_fault, 
 ghost use Rattle.grove_log.specs.Readings.{reading};
 
 use crate::damage::is_damaged;
-use crate::frame::{Seal, frame_at};
+use crate::frame::{Seal, frame_at, passed_at};
 use grove_base::NoMemory;
 use std::marker::Model;
 
@@ -29,29 +29,35 @@ pub enum Unreadable {
     Damaged(usize),
 }
 
-/// The payloads of a file that are still to come.
+/// The payloads of a file that are still to come. Their frames pass: so many bytes are left where no more do.
 #[derive(Drop)]
 pub struct Payloads<'a> {
     seal: Seal,
     rest: &'a [u8],
+    left: usize,
 }
 
 impl<'a> Model for Payloads<'a> {
-    ghost use Rattle.std.specs.Prelude.{ℕ, List};
+    ghost use Rattle.std.specs.Prelude.{◌≡◌, ℕ, List, length};
     ghost use Rattle.grove_log.specs.Readings.{reading};
 
     ghost Value = { List (List ℕ) };
 
     ghost view = { λ p. (reading p.seal.bytes p.rest.now).payloads };
+
+    ghost invariant = { λ p. length (reading p.seal.bytes p.rest.now).rest ≡ p.left };
 }
 
 impl<'a> Payloads<'a> {
-    /// The next one.
-    #[tactic(auto, using(crate::proofs::Steps::reading_more, crate::proofs::Steps::reading_none))]
+    /// The next one. No digest is computed for it.
+    #[tactic(auto, using(crate::proofs::Steps::reading_more, crate::proofs::Steps::all_left, crate::proofs::Steps::less_left))]
     pub fn next_payload(&mut self) -> Option<&'a [u8]>
         ensures { MatchOption result (self.old ≡ []) (λ payload. self.old ≡ payload.now ∷ self.new) }
     {
-        let passed = frame_at(&self.seal.bytes, self.rest)?;
+        if self.rest.len() == self.left {
+            return None;
+        }
+        let passed = passed_at(self.rest)?;
         self.seal = passed.seal;
         self.rest = passed.behind;
         Some(passed.payload)
@@ -90,9 +96,7 @@ fn number_in(file: &[u8]) -> Seal
     requires { 44 ≤ length file.now }
     ensures { result.bytes ≡ number_of file.now }
 {
-    let mut bytes = [0; 32];
-    bytes.copy_from_slice(&file[12..44]);
-    Seal { bytes }
+    Seal::copied(&file[12..HEAD])
 }
 
 /// What is wrong with a file's head.
@@ -131,5 +135,6 @@ pub fn read(file: &[u8]) -> Result<Payloads<'_>, Unreadable>
     Ok(Payloads {
         seal: number,
         rest: frames,
+        left: rest.len(),
     })
 }
