@@ -10,7 +10,7 @@ use std::alloc::Global;
 use std::fs::{File, OpenOptions};
 use std::io::{Read, Write};
 use std::rt::Files;
-use std::{fs, io};
+use std::{fs, io, mem};
 
 const FOUND: u64 = 0;
 
@@ -42,6 +42,9 @@ pub struct LogFile<'a, R: Files<File = File>> {
     folder: File,
     lock: File,
     file: File,
+    /// The file whose place that one has taken, until bytes are to be put behind it. The system may be slow to free
+    /// what no name leads to, and whoever waits for a new file needn't wait for that too.
+    replaced: Option<File>,
     asked: Record,
 }
 
@@ -113,6 +116,7 @@ impl<'a, R: Files<File = File>> LogFile<'a, R> {
             folder,
             lock,
             file,
+            replaced: None,
             asked,
         };
         Ok(Opened { file, bytes })
@@ -137,6 +141,7 @@ impl<'a, R: Files<File = File>> Device for LogFile<'a, R> {
     ghost only_now = { λ d c left. only_now d.asked.events c left };
 
     fn append(&mut self, bytes: &[u8]) -> Result<(), DeviceError> {
+        self.replaced = None;
         let mut out = &self.file;
         match out.write_all(bytes) {
             Ok(()) => {
@@ -183,7 +188,7 @@ impl<'a, R: Files<File = File>> Folder for LogFile<'a, R> {
     fn rename_next(&mut self) -> Result<(), DeviceError> {
         match take_place(self.rt, &self.names, &self.folder) {
             Ok(file) => {
-                self.file = file;
+                self.replaced = Some(mem::replace(&mut self.file, file));
                 self.asked.note(&[RENAMED, 1], &[]);
                 Ok(())
             }
