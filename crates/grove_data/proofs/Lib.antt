@@ -6,3 +6,4 @@ pub mod Named
 pub mod Words
 pub mod Kept
 pub mod Counting
+pub mod Led
