@@ -3,7 +3,7 @@ ghost use Rattle.grove_words.specs.NoOrders.{HasText};
 
 use crate::definitions::command_line;
 use crate::no_order::{NoOrder, no_order};
-use crate::options::{file_in, form_in, http_seats_in, log_in, texts_of, workers_in};
+use crate::options::{file_in, form_in, http_seats_in, log_in, sync_in, texts_of, workers_in};
 use crate::order::{Command, Document, Front, Invocation, Order, Patience, Serving};
 use crate::places::{place_in, server_in};
 use crate::togetherness::go_together;
@@ -131,6 +131,7 @@ fn serving_in<'a>(alloc: Global, word: &str, given: &ArgMatches<'a>) -> Result<S
     Ok(Serving {
         place: place_in(alloc, word, given)?,
         data: given.get_str("data"),
+        sync: sync_in(given),
         workers: workers_in(given),
         patience: Patience {
             idle: given.get_one::<u32>("idle"),

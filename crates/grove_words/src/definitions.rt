@@ -13,6 +13,9 @@ const MOST_HTTP_SEATS: i64 = 1_024;
 /// The forms of a log.
 static LOG_FORMS: [&str; 2] = ["text", "json"];
 
+/// How often rounds may be synced.
+static SYNCS: [&str; 2] = ["round", "second"];
+
 /// The one definition of the command line.
 pub fn command_line<'a>(alloc: Global) -> Result<clap::Command<'a>, AllocError> {
     let judges = add(program(alloc), judge(alloc));
@@ -146,6 +149,7 @@ fn serving<'a>(
         .args(vec![in alloc;
             document(alloc),
             kept(alloc),
+            sync(alloc),
             port(alloc, "The port to listen on"),
             flag(alloc, "any-port", any_port),
             address(alloc, "bind", "The IP address to listen at"),
@@ -230,6 +234,14 @@ fn kept<'a>(alloc: Global) -> Arg<'a> {
     let help =
         "Keep each round in this file, which goes on from there; it is made of DOC if it isn't there";
     valued(alloc, "data", "data", "FILE", help)
+}
+
+fn sync<'a>(alloc: Global) -> Arg<'a> {
+    let help =
+        "Sync FILE at each round, or each second, so that a crash loses about a second; by default round";
+    valued(alloc, "sync", "sync", "WHEN", help)
+        .value_parser(SYNCS.as_slice())
+        .hide_possible_values(true)
 }
 
 fn quiet<'a>(alloc: Global) -> Arg<'a> {

@@ -5,7 +5,7 @@ pub use command_line::order_of;
 pub use no_order::{NoOrder, not_text};
 pub use order::{
     Command, Document, Form, Front, Invocation, LogForm, Order, Patience, Place, Port, Serving,
-    Workers,
+    SyncEach, Workers,
 };
 
 mod command_line;
@@ -16,5 +16,6 @@ mod no_order;
 mod options;
 mod order;
 mod places;
+mod sync_each;
 mod tips;
 mod togetherness;

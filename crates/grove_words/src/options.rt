@@ -1,4 +1,4 @@
-use crate::order::{Form, LogForm, Workers};
+use crate::order::{Form, LogForm, SyncEach, Workers};
 use clap::ArgMatches;
 use std::alloc::{AllocError, Global};
 
@@ -39,6 +39,11 @@ pub fn workers_in(given: &ArgMatches<'_>) -> Workers {
 /// How many connections over HTTP are served at once.
 pub fn http_seats_in(given: &ArgMatches<'_>) -> u32 {
     given.get_one::<u32>("http-seats").unwrap_or(HTTP_SEATS)
+}
+
+/// How often rounds are synced.
+pub fn sync_in(given: &ArgMatches<'_>) -> SyncEach {
+    given.get_one::<SyncEach>("sync").unwrap_or(SyncEach::Round)
 }
 
 /// The form of the log, if one is asked for.

@@ -83,6 +83,7 @@ pub struct Serving<'a> {
     pub place: Place,
     /// The file that its rounds are kept in, if they are.
     pub data: Option<&'a str>,
+    pub sync: SyncEach,
     pub workers: Workers,
     pub patience: Patience,
     /// The form of the log of connections on standard error, if there is one.
@@ -93,6 +94,15 @@ pub struct Serving<'a> {
     pub hosts: Vec<&'a str>,
     /// Whether the reply to each refused line has a hint.
     pub hints: bool,
+}
+
+/// How often the file of the rounds is synced.
+#[derive(Clone, Copy)]
+pub enum SyncEach {
+    /// At each round, before its lines have replies.
+    Round,
+    /// Each second, whatever was replied meanwhile.
+    Second,
 }
 
 /// How a log is written.

@@ -5,6 +5,8 @@ use std::alloc::Global;
 
 const LOG_APART: &str = "'--log <FORM>' needs '--verbose'";
 
+const SYNC_APART: &str = "'--sync <WHEN>' needs '--data <FILE>'";
+
 const SEATS_APART: &str = "'--http-seats <N>' needs '--http <PORT>'";
 
 const HOST_APART: &str = "'--host <NAME>' needs '--http <PORT>'";
@@ -46,7 +48,9 @@ fn http_apart(given: &ArgMatches<'_>) -> Option<&'static str> {
 
 /// What is wrong with options of each command that serves.
 fn serving_apart(given: &ArgMatches<'_>) -> Option<&'static str> {
-    if given.contains_id("log") && !given.get_flag("verbose") {
+    if given.contains_id("sync") && !given.contains_id("data") {
+        Some(SYNC_APART)
+    } else if given.contains_id("log") && !given.get_flag("verbose") {
         Some(LOG_APART)
     } else if !hosts_fit(given) {
         Some(NO_HOST_NAME)
