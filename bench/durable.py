@@ -6,10 +6,10 @@ disk: Redis (`appendfsync always`), etcd (one member) and SQLite (a WAL, `synchr
                             [--folder FOLDER] [--program FILE]                                        (default: all)
 
 rates: one `add` a line, at a tree with so many nodes below its root, by one client, by sixteen, and by sixteen with up
-to 16 lines ahead; the same with no --data. Redis gets an INCRBY for each, etcd a put over HTTP, and SQLite, which is
+to 16 lines ahead; the same by `--sync second`, and with no --data. Redis gets an INCRBY for each, etcd a put over HTTP, and SQLite, which is
 called without a server, a row's update by threads, whose lines can't be ahead. The clients of the three servers are
 bench/serve_client.c. Each row has lines a second, the latency in the middle and at the 99th of 100; and how many times
-the lines a second of each other there are.
+the lines a second of each other there are. By `--sync second` it is how many times those with no --data.
 opening: how long it takes until a server listens, and `grove data` has printed the document, of a file with so many
 rounds, which is written here.
 pause: how long a line takes at which a new file takes the old one's place, of a tree with 4,096 nodes, beside other
@@ -192,9 +192,9 @@ def rates(client: Path, folder: str, given: argparse.Namespace) -> Iterator[Row]
     asked = serve.short_batches(where).lines
     kept = ("--data", f"{folder}/store")
     with contextlib.ExitStack() as room:
-        own = room.enter_context(Serving(given.program, where.document, given.workers, further=kept))
-        unkept = room.enter_context(Serving(given.program, where.document, given.workers))
-        all_of = [Beside(each.port, each.started.pid, asked, (1, 1)) for each in (own, unkept)]
+        ways = (kept, ("--data", f"{folder}/each-second", "--sync", "second"), ())
+        own = [room.enter_context(Serving(given.program, where.document, given.workers, further=way)) for way in ways]
+        all_of = [Beside(each.port, each.started.pid, asked, (1, 1)) for each in own]
         others = [
             room.enter_context(start(folder, where.paths)) if shutil.which(name) else None
             for name, start in (("redis-server", redis), ("etcd", etcd))
@@ -203,7 +203,9 @@ def rates(client: Path, folder: str, given: argparse.Namespace) -> Iterator[Row]
             how = clients, ahead, given.seconds
             found: list[Shown] = [shown(client, each, *how) for each in (*all_of, *others)]
             found.append(NONE if ahead > 1 else sqlite(folder, where.paths, clients, given.seconds))
-            yield Row((clients, ahead), (found[0], *(beside(found[0], each) for each in found[1:])))
+            each_round, each_second, unkept = found[:3]
+            second = (*each_second[:3], beside(each_second, unkept)[3])
+            yield Row((clients, ahead), (each_round, second, *(beside(each_round, each) for each in found[2:])))
 
 
 def shown(client: Path, asked: Beside | None, clients: int, ahead: int, seconds: float) -> Shown:
@@ -222,7 +224,8 @@ def beside(own: Shown, other: Shown) -> Shown:
 def table_of_rates() -> Table:
     ratio = Column("ratio", 7, ".3f", is_ratio=True)
     others = [
-        (Column(f"{name}/s", 9, ",.0f"), *serve.FIGURES[1:3], ratio) for name in ("no data", "Redis", "etcd", "SQLite")
+        (Column(f"{name}/s", 9, ",.0f"), *serve.FIGURES[1:3], ratio)
+        for name in ("second", "no data", "Redis", "etcd", "SQLite")
     ]
     return Table("{:>3} {:>3}", ("by", "ahd"), (serve.FIGURES, *others))
 

@@ -15,7 +15,7 @@ use crate::answering::{data_refused, refused};
 use crate::data_opening::{Keeping, NoData, ServedStore, in_file, in_memory};
 use crate::failure::Failure;
 use grove_answer::{Refusal, or_refuse};
-use grove_serve::{Door, Host, LogForm, Manner, MemoryFile, Patience, Service, Talk};
+use grove_serve::{Door, Host, LogForm, Manner, MemoryFile, Patience, Service, SyncEach, Talk};
 use grove_store::{NoStore, Store};
 use grove_wire::read_tree;
 use grove_words::{Place, Port, Serving, Workers};
@@ -105,6 +105,7 @@ fn listen<'d, R: Host + Files<File = File> + Net<Listener = TcpListener, Stream 
     let service = Service {
         kept,
         counts,
+        sync: sync_of(serving.sync),
         door,
         http,
         manner,
@@ -148,6 +149,13 @@ fn form_of_log(form: grove_words::LogForm) -> LogForm {
     match form {
         grove_words::LogForm::Text => LogForm::Text,
         grove_words::LogForm::Json => LogForm::Json,
+    }
+}
+
+fn sync_of(sync: grove_words::SyncEach) -> SyncEach {
+    match sync {
+        grove_words::SyncEach::Round => SyncEach::Round,
+        grove_words::SyncEach::Second => SyncEach::Second,
     }
 }
 

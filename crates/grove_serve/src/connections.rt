@@ -3,10 +3,12 @@ ghost use Rattle.std.specs.Prelude.{◌≡◌, false};
 use crate::busy::turn_away;
 use crate::closing::close_at_failure;
 use crate::event::Event;
+use crate::file_counts::FileCounts;
 use crate::host::Host;
 use crate::minutes::log_minutes;
 use crate::remedy::Remedy;
-use crate::service::{Door, KeptStore, Service, Talk};
+use crate::seconds::serve_by_seconds;
+use crate::service::{Door, KeptStore, Manner, Service, SyncEach, Talk};
 use crate::slots::Slots;
 use crate::talking::{Caller, serve_caller};
 use grove_desk::{Desk, Opening};
@@ -17,6 +19,7 @@ use grove_tree::NoMemory;
 use std::alloc::Global;
 use std::marker::Brand;
 use std::net::{Net, SocketAddr, TcpListener, TcpStream};
+use std::sync::Arc;
 use std::{io, thread};
 
 /// After so many failures to accept a connection there is a pause, however soon they pass, so that those which last
@@ -24,18 +27,21 @@ use std::{io, thread};
 const FAILURES: u64 = 64;
 
 /// Serves connections, as many at once as there are slots, until none can be accepted any more and the others have
-/// ended, or until a round couldn't be kept. A connection that there is no descriptor or no memory for waits for it; one
-/// that no thread can be started for is closed. Gives back what kept the rounds; nothing, if there was no thread that is
-/// needed where rounds are kept.
+/// ended, or until what was answered couldn't be kept. One for which there is no descriptor or no memory waits for it,
+/// and one for which no thread can be started is closed. Gives back what kept the rounds; nothing, if there was no
+/// thread that is needed where rounds are kept.
 pub fn serve<R: Host + Net<Listener = TcpListener, Stream = TcpStream>, K: Keeper + Drop + Send>(
     rt: &R,
     service: Service<K>,
 ) -> Option<K> {
-    serve_as::<Brand, R, K>(rt, service)
+    match service.sync {
+        SyncEach::Round => serve_by_rounds::<Brand, R, K>(rt, service),
+        SyncEach::Second => serve_by_seconds::<Brand, R, K>(rt, service),
+    }
 }
 
-/// Serves connections at a desk over the service's store, which keeps no journal.
-fn serve_as<
+/// Serves connections at a desk over the service's store, which keeps each round, and no journal.
+fn serve_by_rounds<
     B: Opening + Send + Sync,
     R: Host + Net<Listener = TcpListener, Stream = TcpStream>,
     K: Keeper + Drop + Send,
@@ -49,16 +55,29 @@ fn serve_as<
         door,
         http,
         manner,
+        ..
     } = service;
     let KeptStore { store, keeper } = kept;
-    let paths = paths_of(rt.alloc(), &store).ok();
-    let rounds = store.rounds();
+    let slots = slots_over(rt, &store, &door, http.as_ref(), manner, counts);
     let desk = Desk::<B, K>::open(rt.alloc(), store, keeper, false);
-    let slots = Slots::new(rt, rt.alloc(), &door, http.as_ref(), manner, paths, counts);
-    slots.metrics().rounds.raise_to(rounds);
     let is_served = serve_at(rt, &desk, &slots, &door, http.as_ref());
     let closed = desk.close(rt.alloc(), &[]).ok()?;
     if is_served { Some(closed.keeper) } else { None }
+}
+
+/// The slots of connections to the store.
+pub fn slots_over<R: Host>(
+    rt: &R,
+    store: &Store,
+    door: &Door,
+    http: Option<&Door>,
+    manner: Manner,
+    counts: Option<Arc<FileCounts>>,
+) -> Slots {
+    let paths = paths_of(rt.alloc(), store).ok();
+    let slots = Slots::new(rt, rt.alloc(), door, http, manner, paths, counts);
+    slots.metrics().rounds.raise_to(store.rounds());
+    slots
 }
 
 /// The paths of the store's nodes, which stay the same.
@@ -68,7 +87,7 @@ fn paths_of(alloc: Global, store: &Store) -> Result<Paths, NoMemory> {
 
 /// Serves the connections of the doors at the desk, and logs each minute meanwhile. Says whether there were the threads
 /// for it.
-fn serve_at<
+pub fn serve_at<
     B: Opening + Send + Sync,
     R: Host + Net<Listener = TcpListener, Stream = TcpStream>,
     K: Keeper + Drop + Send,
@@ -246,7 +265,8 @@ fn note_arrival<R: Host>(rt: &R, slots: &Slots, talk: Talk, address: SocketAddr)
     connection
 }
 
-fn log_event<R: Host>(rt: &R, slots: &Slots, event: Event<'_>) {
+/// Logs the event, if there is a log.
+pub fn log_event<R: Host>(rt: &R, slots: &Slots, event: Event<'_>) {
     if let Some(log) = slots.log() {
         log.write(rt, event);
     }

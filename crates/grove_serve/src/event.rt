@@ -35,8 +35,11 @@ pub enum Event<'a> {
     },
     /// No thread could be started that accepts at the port for HTTP.
     NoHttp,
-    /// No thread could be started that ends the connections once a round couldn't be kept.
+    /// No thread could be started that ends the connections once a round couldn't be kept, or that serves them while
+    /// copies are kept.
     NoGuard,
+    /// What is replied is kept each second, so that a crash may lose some of it.
+    EachSecond,
     /// There is none of this for the next connection.
     Lacks(Lack),
     /// The next connection couldn't be accepted, for an error of this number; the one after it is waited for.
@@ -83,6 +86,7 @@ impl Event<'_> {
             Event::NoThread { .. } => "no-thread",
             Event::NoHttp => "no-http",
             Event::NoGuard => "no-guard",
+            Event::EachSecond => "each-second",
             Event::Lacks(Lack::Descriptor) => "no-descriptor",
             Event::Lacks(Lack::Memory) => "no-memory",
             Event::NotAccepted { .. } => "not-accepted",
@@ -97,7 +101,7 @@ impl Event<'_> {
             Event::Accepted { .. } | Event::Minute { .. } => Level::Info,
             Event::Ended { ending, .. } => ending.level(),
             Event::Refused { .. } | Event::TurnedAway { .. } => Level::Warn,
-            Event::NotAccepted { .. } | Event::LeftOut { .. } => Level::Warn,
+            Event::NotAccepted { .. } | Event::LeftOut { .. } | Event::EachSecond => Level::Warn,
             Event::NoThread { .. } | Event::NoHttp | Event::NoGuard => Level::Error,
             Event::Lacks(_) | Event::Stopped { .. } => Level::Error,
         }

@@ -61,7 +61,7 @@ fn write_data<W: fmt::Write>(fields: &mut Fields<'_, W>, event: &Event<'_>) -> f
         Event::TurnedAway { connection } | Event::NoThread { connection } => {
             fields.number("connection", *connection)
         }
-        Event::NoHttp | Event::NoGuard | Event::Lacks(_) => Ok(()),
+        Event::NoHttp | Event::NoGuard | Event::EachSecond | Event::Lacks(_) => Ok(()),
         Event::NotAccepted { talk, error } | Event::Stopped { talk, error } => {
             fields.text("protocol", talk.protocol())?;
             fields.optional_number("os_error", *error)

@@ -6,7 +6,7 @@ pub use connections::serve;
 pub use file_counts::FileCounts;
 pub use host::Host;
 pub use memory_file::MemoryFile;
-pub use service::{Door, KeptStore, LogForm, Manner, Patience, Service, Talk};
+pub use service::{Door, KeptStore, LogForm, Manner, Patience, Service, SyncEach, Talk};
 
 mod busy;
 mod closing;
@@ -30,6 +30,7 @@ mod minutes;
 mod pool;
 mod remedy;
 mod room;
+mod seconds;
 mod service;
 mod slots;
 mod streams;

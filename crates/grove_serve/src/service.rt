@@ -28,10 +28,20 @@ pub struct Service<K: Keeper> {
     pub kept: KeptStore<K>,
     /// What the keeper counts, if it may fail.
     pub counts: Option<Arc<FileCounts>>,
+    pub sync: SyncEach,
     pub door: Door,
     /// Where the same store is served over HTTP beside that, if anywhere.
     pub http: Option<Door>,
     pub manner: Manner,
+}
+
+/// How often what rounds left is kept.
+#[derive(Clone, Copy)]
+pub enum SyncEach {
+    /// At each round, before its lines have replies.
+    Round,
+    /// Each second, whatever was replied meanwhile. A crash may lose that.
+    Second,
 }
 
 /// A port that is listened on.

@@ -2,6 +2,7 @@ use grove_base::NoMemory;
 use std::alloc::Global;
 use std::net::{Shutdown, TcpStream};
 use std::sync::{Arc, Condvar, Mutex, Wait};
+use std::time::{Clock, Duration};
 
 /// The streams of all connections, so that they can be ended together.
 #[derive(Drop)]
@@ -110,6 +111,15 @@ impl Streams {
 
     pub fn is_closed<R: Wait>(&self, rt: &R) -> bool {
         self.list.lock(rt).stage == Stage::Closed
+    }
+
+    /// Waits so long, but no longer than connections are served and all is kept, and says whether that is over.
+    pub fn ends_within<R: Wait + Clock>(&self, rt: &R, longest: Duration) -> bool {
+        let list = self.list.lock(rt);
+        let (list, _) = self
+            .turned
+            .wait_timeout_while(rt, list, longest, |list| list.stage == Stage::Open);
+        list.stage != Stage::Open
     }
 
     /// Waits until a round couldn't be kept, or until no connection is served any more, and says whether it is the
