@@ -76,6 +76,12 @@ class Client(Requests):
         self.close()
 
     def close(self) -> None:
+        """Another thread that waits for a reply gets `Lost`."""
+        try:
+            # To close what another thread reads would wait for the reply.
+            self.connection.shutdown(socket.SHUT_RDWR)
+        except OSError:
+            pass
         self.source.close()
         self.connection.close()
 
@@ -94,6 +100,9 @@ class Client(Requests):
         used for the next only if each is sent by itself."""
         with self.lock:
             self.need_own()
+            # Of earlier lines, whose replies nobody took.
+            while self.sent:
+                self.reply()
             self.taken_by = threading.get_ident()
         try:
             for line in lines:

@@ -6,7 +6,7 @@ import sys
 import threading
 import time
 import unittest
-from contextlib import contextmanager
+from contextlib import contextmanager, suppress
 from typing import Any, Callable, Iterator, List, Optional
 
 from pickbracken import Access, FlowRow, Plan, Refused, Reply, Step
@@ -53,10 +53,11 @@ def replying(*replies: bytes, seen: List[bytes]) -> Callable[[socket.socket], No
 
 
 def echo(connection: socket.socket) -> None:
-    """Answers each line with what it was, a moment later."""
-    for line in connection.makefile("rb"):
-        time.sleep(0.0005)
-        connection.sendall(b'{"echo":' + line.rstrip() + b"}\n")
+    """Answers each line with what it was, a moment later, until nobody takes that any more."""
+    with suppress(OSError):
+        for line in connection.makefile("rb"):
+            time.sleep(0.0005)
+            connection.sendall(b'{"echo":' + line.rstrip() + b"}\n")
 
 
 def lines_of(thread: int, count: int) -> List[bytes]:
@@ -108,6 +109,103 @@ class Threads(unittest.TestCase):
             in_another_thread(client)
         self.assertEqual(rest, [b'{"echo":' + line + b"}" for line in lines_of(1, 3)])
         self.assertEqual(came, ["in use", "in use", b'{"echo":[]}', b'{"echo":[]}'])
+
+
+    def test_one_that_waits_is_lost_once_another_closes(self) -> None:
+        ended, told = threading.Event(), Told()
+
+        def wait(_: socket.socket) -> None:
+            ended.wait(10)
+
+        with served(wait) as client:
+            threads = told.started(3, lambda _: client.send(b"[]"))
+            while not client.sent:
+                time.sleep(0.001)
+            begun = time.monotonic()
+            client.close()
+            closed_in = time.monotonic() - begun
+            told.join(threads)
+            ended.set()
+        self.assertLess(closed_in, 5)
+        self.assertEqual((told.kinds(), told.replies), ([Lost] * 3, []))
+
+    def test_all_are_told_that_the_server_is_lost(self) -> None:
+        """Each that has no reply yet, whichever line was the last one answered."""
+        seen: List[bytes] = []
+        told = Told()
+        with served(replying(*[b"{1}"] * 5, seen=seen)) as client:
+            told.join(told.started(8, lambda _: client.send(b"[]")))
+        self.assertEqual((told.kinds(), told.replies), ([Lost] * 3, [b"{1}"] * 5))
+
+    def test_what_is_no_line_leaves_nothing_to_others(self) -> None:
+        told = Told()
+        lines = [b"two\nlines", b"[1]", b"two\nlines", b"[2]"]
+        with served(echo) as client:
+            told.join(told.started(4, lambda number: client.send(lines[number])))
+        self.assertEqual((told.kinds(), sorted(told.replies)), ([ValueError] * 2, [b'{"echo":[1]}', b'{"echo":[2]}']))
+
+    def test_replies_that_nobody_takes_are_nobody_elses(self) -> None:
+        """One ends in the midst of its replies, and others go on."""
+        told = Told()
+
+        def use(client: Client, number: int) -> bytes:
+            if number % 2:
+                return next(client.send_all(lines_of(number, 3)))
+            return client.send(b"[%d]" % number)
+
+        def until_free(client: Client, number: int) -> bytes:
+            while True:
+                try:
+                    return use(client, number)
+                except InUse:
+                    time.sleep(0.001)
+
+        with served(echo) as client:
+            told.join(told.started(8, lambda number: until_free(client, number)))
+        wanted = [b'{"echo":[%d,0]}' % number if number % 2 else b'{"echo":[%d]}' % number for number in range(8)]
+        self.assertEqual((told.kinds(), sorted(told.replies)), ([], sorted(wanted)))
+
+    def test_calls_of_each_kind_have_their_own_replies(self) -> None:
+        """A server that answers weights by weights, and reweighings by how many weights have changed."""
+
+        def answer(connection: socket.socket) -> None:
+            for line in connection.makefile("rb"):
+                reply = b'{"changed":2}' if line.startswith(b'{"reweigh"') else b'{"waits":[0],"weights":[5]}'
+                connection.sendall(reply + b"\n")
+
+        told = Told()
+        with served(answer) as client:
+            calls: List[Callable[[], Any]] = [client.weights, client.reweigh] * 4
+            told.join(told.started(8, lambda number: [calls[number]() for _ in range(50)]))
+        self.assertEqual(told.kinds(), [])
+        self.assertEqual(sorted(told.replies, key=str), sorted([[((5,), (0,))] * 50, [2] * 50] * 4, key=str))
+
+
+class Told:
+    """What threads got, and what they raised."""
+
+    def __init__(self) -> None:
+        self.replies: List[Any] = []
+        self.errors: List[Exception] = []
+
+    def started(self, count: int, use: Callable[[int], Any]) -> List[threading.Thread]:
+        def run(number: int) -> None:
+            try:
+                self.replies.append(use(number))
+            except Exception as why:
+                self.errors.append(why)
+
+        threads = [threading.Thread(target=run, args=(number,), daemon=True) for number in range(count)]
+        for thread in threads:
+            thread.start()
+        return threads
+
+    def join(self, threads: List[threading.Thread]) -> None:
+        for thread in threads:
+            thread.join(20)
+
+    def kinds(self) -> List[type]:
+        return [type(error) for error in self.errors]
 
 
 class Clients(unittest.TestCase):

@@ -53,9 +53,10 @@ impl Client {
         I: IntoIterator,
         I::Item: AsRef<[u8]>,
     {
-        let connection = self.0.get_mut();
+        let connection = unpoisoned(self.0.get_mut());
         Replies {
-            connection: unpoisoned(connection),
+            passed: connection.sent.len(),
+            connection,
             lines: Some(lines.into_iter().peekable()),
         }
     }
@@ -83,6 +84,8 @@ impl fmt::Debug for Client {
 /// The replies to lines that are sent ahead of them. There are no lines any more once one wasn't sent, or has no reply.
 struct Replies<'c, L: Iterator> {
     connection: &'c mut Connection,
+    /// Of earlier lines, whose replies nobody took.
+    passed: usize,
     lines: Option<Peekable<L>>,
 }
 
@@ -90,6 +93,11 @@ impl<L: Iterator<Item: AsRef<[u8]>>> Iterator for Replies<'_, L> {
     type Item = Result<String, Error>;
 
     fn next(&mut self) -> Option<Result<String, Error>> {
+        for _ in 0..std::mem::take(&mut self.passed) {
+            if let Err(why) = self.connection.reply() {
+                return self.ended(why);
+            }
+        }
         while let Some(line) = self.line_ahead() {
             match self.connection.put(line.as_ref()) {
                 Ok(true) => {}

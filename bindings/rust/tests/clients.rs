@@ -229,6 +229,16 @@ fn a_reply_is_that_of_its_line() {
 }
 
 #[test]
+fn a_reply_that_nobody_took_is_of_no_later_line() {
+    let server = replying(texts(&["{1}", "{2}", "{3}", "{4}", "{5}"]));
+    let mut client = server.client();
+    let first = client.send_all(["a", "b", "c"]).next();
+    assert_eq!(first, Some(Ok("{1}".to_owned())));
+    let replies: Vec<_> = client.send_all(["d", "e"]).collect();
+    assert_eq!(replies, ["{4}", "{5}"].map(|it| Ok(it.to_owned())));
+}
+
+#[test]
 fn what_has_no_reply_is_told() {
     let server = Server::new(|stream| {
         let lines = lines_of(&stream, 5);
