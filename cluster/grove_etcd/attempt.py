@@ -9,6 +9,7 @@ the first group of that job, if its guards hold.
 """
 from __future__ import annotations
 
+import os
 import time
 from concurrent.futures import ThreadPoolExecutor
 from contextlib import contextmanager
@@ -491,11 +492,16 @@ class Attempt:
         return self.put_under_way(found, self.means.sign(last.waits, fails, why), sign)
 
     def perform(self, access: Access, record: int, token: str) -> None:
-        """Calls the work, once for each try."""
+        """Calls the work, once for each try. A process that the work has forked, and that comes back, is no worker."""
         if self.means.work is not None:
             self.means.journal.log("work", job=token)
-            # A list of its own, since the work may change it.
-            self.means.work(list(access), record, token)
+            own = os.getpid()
+            try:
+                # A list of its own, since the work may change it.
+                self.means.work(list(access), record, token)
+            finally:
+                if os.getpid() != own:
+                    os._exit(1)
 
     def fail(self, found: Seen, fails: int, why: str) -> Seen | None:
         """Sets the job aside, or pauses before the next try."""

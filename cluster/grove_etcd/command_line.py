@@ -98,8 +98,8 @@ def end(status: int) -> NoReturn:
     for stream in (sys.stdout, sys.stderr):
         try:
             stream.flush()
-        except OSError:
-            """Nobody reads it any more."""
+        except (OSError, ValueError, AttributeError):
+            """Nobody reads it any more, or work has closed it."""
     os._exit(status)
 
 
@@ -121,7 +121,8 @@ def status_of(program: Callable[[], Any]) -> int:
 def status_told(program: Callable[[], Any]) -> int:
     try:
         program()
-        sys.stdout.flush()
+        if sys.stdout and not sys.stdout.closed:
+            sys.stdout.flush()
         return 0
     except Refused as refused:
         print(f"refused {refused}", flush=True)

@@ -8,12 +8,16 @@ CUT = ".."
 
 def why_of(failure: BaseException) -> str:
     """The kind of the failure and its text, which needn't be printable."""
-    kind = type(failure).__name__
     try:
         text = str(failure)
     except BaseException as why:  # whatever its own text raises
-        text = f"its text raises {type(why).__name__}"
-    return cut(f"{kind}: {text}")
+        text = f"its text raises {kind_of(why)}"
+    return cut(f"{kind_of(failure)}: {text}")
+
+
+def kind_of(failure: BaseException) -> str:
+    """The name that its class was given, whatever a class of classes makes of that."""
+    return str(vars(type)["__name__"].__get__(type(failure)))
 
 
 def cut(text: str) -> str:

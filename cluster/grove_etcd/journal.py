@@ -2,6 +2,7 @@
 from __future__ import annotations
 
 import logging
+import os
 import threading
 from collections import Counter
 from http.server import BaseHTTPRequestHandler, ThreadingHTTPServer
@@ -11,7 +12,7 @@ LOG = logging.getLogger("grove")
 # Events without a line, since there are so many.
 COUNTED = {"commit", "commit_failed", "stepped_back", "work"}
 # Events with a line even without --verbose.
-WARNED = {"work_failed", "set_aside", "lost", "stray"}
+WARNED = {"work_failed", "set_aside", "lost", "stray", "no_thread"}
 FORM = """\
 # HELP grove_worker_events_total What happened to this worker, by event.
 # TYPE grove_worker_events_total counter
@@ -35,7 +36,10 @@ class Journal:
             self.counts[event] += 1
         level = logging.WARNING if event in WARNED else logging.INFO
         if event not in COUNTED and LOG.isEnabledFor(level):
-            LOG.log(level, "%s", line_of(event, facts))
+            try:
+                LOG.log(level, "%s", line_of(event, facts))
+            except Exception:  # whatever the work has made of standard error
+                """Nobody hears it."""
 
     def metrics(self) -> str:
         """In the text form of Prometheus."""
@@ -58,7 +62,9 @@ def quoted(text: str) -> str:
 
 
 def log_to_standard_error(verbose: bool) -> None:
-    logging.basicConfig(format="%(levelname)s %(message)s", level=logging.WARNING)
+    """By a stream of its own, since work may close `sys.stderr`, or put another one in its place."""
+    own = os.fdopen(os.dup(2), "w", errors="backslashreplace")
+    logging.basicConfig(format="%(levelname)s %(message)s", level=logging.WARNING, stream=own)
     LOG.setLevel(logging.INFO if verbose else logging.WARNING)
 
 

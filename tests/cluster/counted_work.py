@@ -102,6 +102,48 @@ def raise_interrupt(access, _record, _token):
         raise KeyboardInterrupt
 
 
+def close_standard_error(access, _record, _token):
+    if access[1] == "/a":
+        sys.stdout.close()
+        sys.stderr.close()
+        raise RuntimeError("unheard")
+
+
+def have_no_standard_error(access, _record, _token):
+    if access[1] == "/a":
+        sys.stdout = sys.stderr = None
+        raise RuntimeError("unheard")
+
+
+def fork_a_worker(access, _record, _token):
+    """A child that would go on as a worker beside its parent."""
+    if access[1] == "/a":
+        if os.fork() == 0:
+            raise RuntimeError("the child goes on")
+        raise RuntimeError(f"the child ended with {os.waitstatus_to_exitcode(os.wait()[1])}")
+
+
+class Unnamed(type):
+    """Of its classes nobody gets the name."""
+
+    def __getattribute__(cls, name):
+        return sys.exit("no name") if name == "__name__" else super().__getattribute__(name)
+
+
+class Nameless(Exception, metaclass=Unnamed):
+    pass
+
+
+def raise_nameless(access, _record, _token):
+    if access[1] == "/a":
+        raise Nameless
+
+
+def end_as_if_well(access, _record, _token):
+    if access[1] == "/a":
+        os._exit(0)
+
+
 def end_the_process(access, _record, _token):
     if access[1] == "/a":
         os._exit(7)

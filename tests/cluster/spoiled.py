@@ -81,14 +81,21 @@ def a_group_ends_before_it_is_too_large(cluster, grove):
     return None
 
 
-# Functions of counted_work, and what is said of a job whose work one of them is; the last two end their process.
+# Functions of counted_work, and what is said of a job whose work one of them is; the last two end their worker.
 ENDINGS = {
     "raise_much": "RuntimeError: upstream said: xxxx",
     "leave": "SystemExit: no such shop",
     "raise_odd": "Odd: its text raises TypeError",
     "raise_interrupt": "KeyboardInterrupt:",
+    "close_standard_error": "RuntimeError: unheard",
+    "have_no_standard_error": "RuntimeError: unheard",
+    "fork_a_worker": "RuntimeError: the child ended with 1",
+    "raise_nameless": "Nameless:",
+    "end_as_if_well": "its worker ended, or gave no sign of life",
     "end_the_process": "its worker ended, or gave no sign of life",
 }
+# The status of a worker whose work has ended it.
+STATUSES = {"end_as_if_well": 0, "end_the_process": 7}
 
 
 def no_work_ends_all_workers(cluster, grove):
@@ -183,7 +190,7 @@ def fault_of_work(cluster, grove, function, wanted, number):
     is_short = max(map(len, errors.splitlines()), default=0) < 5000
     if not (told and told.why.startswith(wanted) and len(told.why) <= 4096 and told.holds == ["/a"] and is_short):
         return f"{ends}, {told and told.why[:200]}, {told and told.holds}, {errors[:500]}"
-    gone = [7] * 2 if function == "end_the_process" else []
+    gone = [STATUSES[function]] * 2 if function in STATUSES else []
     if ends != [*gone, 0] or store.records("/b") != [1]:
         return f"ended with {ends}, {store.records('/b')}"
     list(drop_all(store.members, store.keys, store.jobs[:1]))

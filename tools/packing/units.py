@@ -123,16 +123,14 @@ EnvironmentFile=-/etc/default/grove
 ExecStart=@PREFIX@/bin/grove-work $GROVE_WORK
 # SIGTERM ends it after the group that goes on, with the work that belongs to it.
 TimeoutStopSec=300
-# Status 1 is a store that isn't there or of another format, 2 a wrong word: neither gets better by another start. 3 is
-# that no member of etcd answered for a minute. A worker is killed (SIGKILL) if its work goes on without a sign of life,
-# and is to come back then.
-Restart=on-failure
+# Whatever status it ends with, since work may end it with any, and no member of etcd may have answered for a minute. A
+# wrong word is told each time.
+Restart=always
 RestartSec=5
-RestartPreventExitStatus=1 2
 
-# Limits.
+# Limits. Each job that waits has a thread (--most-waiting).
 MemoryMax=1G
-TasksMax=128
+TasksMax=1024
 LimitNOFILE=256
 
 @RIGHTS@
