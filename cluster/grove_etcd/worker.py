@@ -12,6 +12,7 @@ import uuid
 from collections import deque
 from concurrent.futures import Future
 from contextlib import contextmanager
+from dataclasses import dataclass
 from functools import partial
 from typing import Any, Callable, Iterable, Iterator, Optional, Sequence
 
@@ -55,8 +56,15 @@ FULL_SECONDS = 0.2
 GONE_SECONDS = 60.0
 # How many jobs of one worker wait at most, if it isn't told.
 MOST_WAITING = 256
-# What a thread does; it gives whether it still has its turn.
-Task = Callable[[], bool]
+
+
+@dataclass(frozen=True)
+class Task:
+    """What a thread does with the jobs of these names, which no other thread chooses meanwhile. It gives whether it
+    still has its turn."""
+
+    names: set[str]
+    do: Callable[[set[str]], bool]
 
 
 class Worker:
@@ -221,21 +229,12 @@ class Worker:
             self.rests = [job for job in self.rests if job.begins_at() in avoided]
         if not jobs:
             return None
-        return self.with_chosen({job.name for job in jobs}, partial(self.run_batch, jobs))
+        return Task({job.name for job in jobs}, partial(self.run_batch, jobs))
 
-    def chosen_for(self, some: list[str], task: Callable[[set[str]], bool]) -> Task:
+    def chosen_for(self, some: list[str], do: Callable[[set[str]], bool]) -> Task:
         """No other thread of this worker chooses these jobs until the task is done, or comes to wait for one. The task
         gets the set of their names, to which it adds those that it chooses itself."""
-        return self.with_chosen(self.choose(some), task)
-
-    def with_chosen(self, names: set[str], task: Callable[[set[str]], bool]) -> Task:
-        def chosen() -> bool:
-            try:
-                return task(names)
-            finally:
-                self.let_go(names)
-
-        return chosen
+        return Task(self.choose(some), do)
 
     def choose(self, names: Iterable[str]) -> set[str]:
         """Those of these that no thread had chosen."""
@@ -259,14 +258,17 @@ class Worker:
             names.intersection_update({name})
 
     def start_thread(self, task: Task) -> None:
+        """If the system gives it no more threads, the jobs are left for later."""
+
         def run() -> None:
             has_turn = True
             try:
-                has_turn = task()
+                has_turn = task.do(task.names)
             except BaseException as why:  # the main thread raises it
                 self.error = self.error or why
                 self.stop()
             finally:
+                self.let_go(task.names)
                 if has_turn:
                     self.turns.give()
                 self.threads.discard(threading.current_thread())
@@ -274,7 +276,14 @@ class Worker:
 
         thread = threading.Thread(target=run)
         self.threads.add(thread)
-        thread.start()
+        try:
+            thread.start()
+        except RuntimeError as why:
+            self.means.journal.log("no_thread", why=why)
+            self.threads.discard(thread)
+            self.let_go(task.names)
+            self.turns.give()
+            time.sleep(FULL_SECONDS)
 
     def note_end(self) -> None:
         """What one task has done may be what another can go on with."""

@@ -27,6 +27,8 @@ from followed import (
     what_no_event_tells_of_is_refused,
     what_was_compacted_is_said_to_be_missed,
 )
+from formless import what_has_no_form_is_refused_by_name, what_is_no_text_stops_nobody
+from hot import a_hot_node_holds_up_no_others, a_worker_without_more_threads_goes_on
 from installed import (
     programs_of_two_versions_work_on_one_store,
     the_wheel_has_the_programs,
@@ -61,6 +63,7 @@ from parked import (
     the_last_sign_of_one_that_is_gone_is_deleted,
     work_goes_on_in_threads,
 )
+from restarted import generations_of_workers_are_killed, what_a_fleet_leaves_is_done
 from rights import a_worker_needs_few_rights
 from serial import fault_of_order
 from store_at_hand import (
@@ -430,6 +433,10 @@ TRIALS = [
     programs_of_two_versions_work_on_one_store,
     the_wheel_has_the_programs,
     all_that_were_abandoned_are_taken_up,
+    what_a_fleet_leaves_is_done,
+    generations_of_workers_are_killed,
+    a_hot_node_holds_up_no_others,
+    a_worker_without_more_threads_goes_on,
     a_group_ends_before_it_is_too_large,
     no_work_ends_all_workers,
     no_work_ends_the_worker_it_is_done_by,
