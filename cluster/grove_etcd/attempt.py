@@ -26,7 +26,7 @@ from .keys import Keys, last_part
 from .leash import now
 from .members import MOST_OPERATIONS, Lost, Members, Unfit, pauses
 from .ready import MOST_INNER, Beginning, MakesReady, Ready
-from .refusals import Failed, Refused
+from .refusals import Failed, NoForm, Refused
 from .seeing import MOST_READS, Seen, contested, is_last, left_by, reads_for, reads_of_steps, seen, window
 from .sharing import Commits, Part
 from .signs import PATIENCE, Abandoned, Signs, Stills
@@ -653,6 +653,6 @@ def waiter_of(text: str) -> Waiter | None:
     try:
         waiter = Waiter.read(text)
         Progress.of(waiter.progress)
-    except (ValueError, TypeError, AttributeError):
+    except NoForm:
         return None
     return waiter

@@ -15,7 +15,7 @@ from .jobs import Kind
 from .keys import Keys
 from .members import Members
 from .past import Past, Taken, in_order
-from .refusals import Refused
+from .refusals import NoForm, Refused
 from .seeing import window
 from .values import Value
 from .weights import Weight
@@ -185,6 +185,13 @@ class Chain:
         return node.record.put_at if node.record and is_loaded else 0
 
 
+def left_of(key: str, text: str) -> Left:
+    try:
+        return Left.read(text)
+    except NoForm as why:
+        raise Refused(f"stray-epoch {key}") from why
+
+
 def nodes_at(
     members: Members, keys: Keys, paths: Iterable[str], epoch: int, head: Head, closed_at: int
 ) -> dict[str, Node]:
@@ -202,7 +209,7 @@ def nodes_at(
     prefix = keys.whole("b")[:-1]
     for key, entry in found.below(keys.whole("b")).items():
         path, _, number = key[len(prefix) :].rpartition("//")
-        left.setdefault(path, []).append((int(number), Left.read(entry.value)))
+        left.setdefault(path, []).append((int(number), left_of(key, entry.value)))
     return {
         path: node_of(keys, path, found, sorted(left.get(path, []), key=lambda each: each[0]), epoch) for path in paths
     }
@@ -212,12 +219,16 @@ def node_of(keys: Keys, path: str, found: Found, left: list[tuple[int, Left]], e
     weight = found.value(keys.weight(path))
     if weight is None:
         raise Refused(f"no-path {path}")
+    try:
+        loaded = Weight.read(weight)
+    except NoForm as why:
+        raise Refused(f"stray-weight {path}") from why
     before = [each for number, each in left if number < epoch]
     return Node(
         path,
         found.entries.get(keys.record(path)),
         found.entries.get(keys.owner(path)),
-        Weight.read(weight),
+        loaded,
         before[-1] if before else None,
         left[-1][1] if left else None,
         left[-1][0] if left else 0,

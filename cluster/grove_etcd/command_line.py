@@ -6,6 +6,7 @@ import os
 import sys
 import traceback
 from importlib import import_module
+from io import TextIOWrapper
 from pathlib import Path
 from typing import Any, Callable, NoReturn
 
@@ -86,6 +87,9 @@ def run(parser: argparse.ArgumentParser, program: Program) -> None:
     """Runs a program on the members and keys that its arguments name. Its status is 1 if it refuses, 2 if an argument
     is wrong, and 3 if no member answers, a file, a program or etcd fails, or the program itself has an error."""
     given = parser.parse_args()
+    if isinstance(sys.stdout, TextIOWrapper):
+        # Names and values in etcd may be any bytes.
+        sys.stdout.reconfigure(errors="backslashreplace")
     try:
         addresses, keys, credentials = addresses_of(given.members), Keys(given.store), credentials_of(given)
     except ValueError as bad:

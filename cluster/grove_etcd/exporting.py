@@ -6,10 +6,11 @@ from __future__ import annotations
 
 from typing import Iterator
 
-from .chain import Left
+from .chain import left_of
 from .head import Head, need_store
 from .keys import Keys
 from .members import Members
+from .past import number_of
 from .tree import names_of, rows_of
 from .values import written
 from .weighing import last_weighing
@@ -43,7 +44,7 @@ def left_by_epochs(members: Members, keys: Keys, head: Head) -> dict[str, int]:
     left: dict[str, int] = {}
     for page in members.pages(keys.whole("b"), head.revision):
         for key in sorted(page.entries):
-            path, _, number = keys.parts(key)[1].rpartition("//")
-            if int(number) < head.epoch:
-                left[path] = Left.read(page.entries[key].value).record
+            path = keys.parts(key)[1].rpartition("//")[0]
+            if number_of(key) < head.epoch:
+                left[path] = left_of(key, page.entries[key].value).record
     return left

@@ -12,8 +12,8 @@ from .head import head_text
 from .jobs import Event, Progress
 from .keys import MOST_KEY, Keys
 from .members import Members
-from .past import Epoch, Past, Taken, past_job
-from .refusals import Refused
+from .past import Past, Taken, epoch_of, number_of, past_job, told_of
+from .refusals import NoForm, Refused
 from .stream import Change, Moment
 from .weights import Weight
 from .wire import Entry, reading
@@ -72,10 +72,10 @@ class Happening:
     def need_own(self, kind: str, change: Change, revision: int) -> None:
         """It was put when an epoch was closed, here or by another audit, or deleted when one was forgotten here."""
         if kind == "x" and change.value is not None and not self.auditor.has_written(change.key, change.value):
-            self.auditor.follow_close(int(change.key.rpartition("/")[2]), Epoch.read(change.value), revision)
-        if change.value is None and kind in "xb" and int(change.key.rpartition("/")[2]) <= self.forgotten:
+            self.auditor.follow_close(number_of(change.key), epoch_of(change.key, change.value), revision)
+        if change.value is None and kind in "xb" and number_of(change.key) <= self.forgotten:
             return
-        if change.value is not None and kind == "x" and Epoch.read(change.value).going and self.forgotten:
+        if change.value is not None and kind == "x" and epoch_of(change.key, change.value).going and self.forgotten:
             return
         if not self.auditor.has_written(change.key, change.value):
             raise Refused(f"stray-epoch {change.key}")
@@ -144,9 +144,9 @@ class Happening:
         """The job's next group, whose number and progress have to be the next ones."""
         name, _, number = rest.partition("/")
         past = self.auditor.ledger.pasts[name]
-        if int(number) != len(past.taken) or change.version != 1 or name not in progress:
+        if number != f"{len(past.taken):06}" or change.version != 1 or name not in progress:
             raise Refused(f"left-out {name}")
-        event = Event.read(change.value or "")
+        event = told_of(Event, name, change.value or "")
         step = past.progress.step
         if event.dropped is not None and past.progress.dropped is not None:
             raise Refused(f"left-out {name}")
@@ -159,7 +159,7 @@ class Happening:
                 continue
             if change.value is None or name not in told:
                 raise Refused(f"left-out {name}")
-            self.auditor.ledger.put(self.after(told[name], Progress.read(change.value), change.version))
+            self.auditor.ledger.put(self.after(told[name], told_of(Progress, name, change.value), change.version))
 
     def after(self, group: Taken, progress: Progress, version: int) -> Past:
         """What the job has done once it has taken the group."""
@@ -215,7 +215,7 @@ class Happening:
         own = {kind: self.keys.whole(kind) + name for kind in "puaj"}
         found = self.members.get(*own.values(), revision=revision)
         text: Optional[str] = found.value(own["j"])
-        has_ended = text is not None and Progress.read(text).has_ended()
+        has_ended = text is not None and told_of(Progress, name, text).has_ended()
         if own["p"] in found.entries and not has_ended and not {own["u"], own["a"]} & found.entries.keys():
             raise Refused(f"left-out {name}")
 
@@ -224,4 +224,7 @@ def is_reweighed(change: Change) -> bool:
     """Is the loaded record the same as before?"""
     if change.before is None or change.value is None:
         return False
-    return Weight.read(change.before).loaded == Weight.read(change.value).loaded
+    try:
+        return Weight.read(change.before).loaded == Weight.read(change.value).loaded
+    except NoForm:
+        return False

@@ -1,13 +1,12 @@
 """The store as a whole: whether it is there, its format, and the open epoch."""
 from __future__ import annotations
 
-import json
 from dataclasses import dataclass
 
 from .keys import FORMAT, Keys
 from .members import Members
-from .refusals import Refused
-from .values import written
+from .refusals import NoForm, Refused
+from .values import Value
 from .wire import Found, Guard, unchanged
 
 
@@ -24,20 +23,31 @@ class Head:
         return unchanged(keys.head(), self.put_at)
 
 
+@dataclass(frozen=True)
+class Stands(Value):
+    """What stands at the head's key."""
+
+    format: int
+    epoch: int
+
+
 def head_text(epoch: int) -> str:
-    return written({"format": FORMAT, "epoch": epoch})
+    return Stands(FORMAT, epoch).text()
 
 
 def head_of(keys: Keys, found: Found, revision: int = 0) -> Head:
     entry = found.entries.get(keys.head())
     if entry is None:
         raise Refused("other-format 1" if keys.old_head() in found.entries else "not-loaded")
-    fields = json.loads(entry.value)
-    if fields["format"] not in (FORMAT, FORMAT - 1):
-        raise Refused(f"other-format {fields['format']}")
-    if entry.version != fields["epoch"]:
+    try:
+        stands = Stands.read(entry.value)
+    except NoForm as why:
+        raise Refused("stray-head") from why
+    if stands.format not in (FORMAT, FORMAT - 1):
+        raise Refused(f"other-format {stands.format}")
+    if entry.version != stands.epoch:
         raise Refused("stray-head")
-    return Head(fields["epoch"], revision or found.revision, entry.put_at, entry.made_at)
+    return Head(stands.epoch, revision or found.revision, entry.put_at, entry.made_at)
 
 
 def head_at(members: Members, keys: Keys, revision: int) -> Head:

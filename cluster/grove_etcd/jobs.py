@@ -142,12 +142,6 @@ class UnderWay(Value):
         """Was the job set aside by a version that had no key for that?"""
         return bool(self.more.get("aside"))
 
-    def need_form(self) -> UnderWay:
-        is_well = isinstance(self.by, str) and isinstance(self.patience, (int, float)) and isinstance(self.fails, int)
-        if not (is_well and isinstance(self.waits or "", str) and isinstance(self.why, str)):
-            raise ValueError(f"no sign of life: {self.text()}")
-        return self
-
 
 @dataclass(frozen=True)
 class Aside(Value):

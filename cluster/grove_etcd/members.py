@@ -28,6 +28,7 @@ from .wire import (
     ranging,
     reading,
     request_of,
+    text_of,
 )
 
 # Of operations in a transaction, and of its compares (etcd's default limit).
@@ -246,7 +247,7 @@ class Members:
             found.add(answer.kvs)
             yield found
             more = answer.more
-            start = answer.kvs[-1].key.decode() + "\0" if more else start
+            start = text_of(answer.kvs[-1].key) + "\0" if more else start
 
     def below(self, prefix: str, revision: int = 0, keys_only: bool = False) -> Found:
         """All that `pages` gives, at once."""

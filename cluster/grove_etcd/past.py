@@ -1,6 +1,7 @@
 """What jobs left in etcd, as of one revision: those in no closed epoch, and those of one epoch."""
 from __future__ import annotations
 
+import re
 from dataclasses import dataclass
 from typing import Iterable
 
@@ -8,9 +9,11 @@ from .jobs import Event, Job, Kind, Progress, Step
 from .judging import read_job
 from .keys import MOST_KEY, Keys, last_part
 from .members import Members
-from .refusals import Refused
-from .values import Value
+from .refusals import NoForm, Refused
+from .values import Kept, Value
 from .wire import Entry, Found, reading, reading_below
+
+NUMBER = re.compile("[0-9]{10}")
 
 
 @dataclass(frozen=True)
@@ -67,7 +70,30 @@ def epochs_of(members: Members, keys: Keys, revision: int = 0) -> dict[int, Epoc
 
 
 def epochs_in(entries: dict[str, Entry]) -> dict[int, Epoch]:
-    return {int(last_part(key)): Epoch.read(entry.value) for key, entry in entries.items()}
+    return {number_of(key): epoch_of(key, entry.value) for key, entry in entries.items()}
+
+
+def number_of(key: str) -> int:
+    """The epoch's number with which the key ends."""
+    number = last_part(key)
+    if not NUMBER.fullmatch(number):
+        raise Refused(f"stray-epoch {key}")
+    return int(number)
+
+
+def epoch_of(key: str, text: str) -> Epoch:
+    try:
+        return Epoch.read(text)
+    except NoForm as why:
+        raise Refused(f"stray-epoch {key}") from why
+
+
+def told_of(kind: type[Kept], name: str, text: str) -> Kept:
+    """What was put for a job. No group puts what hasn't its form."""
+    try:
+        return kind.read(text)
+    except NoForm as why:
+        raise Refused(f"left-out {name}") from why
 
 
 def names_below(members: Members, keys: Keys, kind: str, revision: int) -> set[str]:
@@ -99,14 +125,14 @@ def past_of(keys: Keys, name: str, found: Found, events: list[str]) -> Past:
     if keys.job(name) not in found.entries:
         raise Refused(f"left-out {name}")
     standing = found.value(keys.progress(name))
-    progress = Progress.read(standing) if standing is not None else None
+    progress = told_of(Progress, name, standing) if standing is not None else None
     has_done = progress is not None and progress.dropped != 0
     job = past_job(name, found.entries[keys.job(name)], has_done)
     nodes = frozenset(job.nodes()) if has_done else frozenset()
     progress = progress or Progress(0, len(job.plan))
     taken, step, dropped = [], 0, None
     for key in events:
-        event = Event.read(found.entries[key].value)
+        event = told_of(Event, name, found.entries[key].value)
         if event.dropped is not None and dropped is None:
             dropped = step
         taken.append(Taken(found.revision_of(key), job, step, event))

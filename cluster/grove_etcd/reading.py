@@ -10,7 +10,7 @@ from .journal import Journal
 from .judging import is_path, need_legal, read_job
 from .keys import DIGITS_OF_AGE, MOST_KEY, Keys, last_part
 from .members import Members
-from .refusals import Refused
+from .refusals import NoForm, Refused
 from .wire import Entry, Found, absent, deleting, putting, reading, unchanged
 
 # Of paths that are known to be those of nodes; and of a key that is too long, what is said of it.
@@ -107,7 +107,9 @@ class Reader:
         """None of a job that an older version has set aside. One whose value hasn't its form is set aside."""
         try:
             under_way = UnderWay.read(entry.value)
-            return None if under_way.is_aside() else under_way.need_form()
+            if not is_path(under_way.waits or "/"):
+                raise NoForm("UnderWay", entry.value)
+            return None if under_way.is_aside() else under_way
         except Exception as why:  # whatever stands there
             self.set_aside(last_part(key), why_of(why))
             return None

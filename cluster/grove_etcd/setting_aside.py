@@ -8,7 +8,7 @@ from .head import need_store
 from .jobs import Aside, UnderWay
 from .keys import Keys, last_part
 from .members import Members
-from .refusals import Refused
+from .refusals import NoForm, Refused
 from .wire import deleting, putting, unchanged
 
 
@@ -16,7 +16,7 @@ def failed(members: Members, keys: Keys) -> Iterator[tuple[str, Aside]]:
     """The jobs that are set aside, and why."""
     for page in members.pages(keys.whole("a")):
         for key, entry in page.entries.items():
-            yield last_part(key), Aside.read(entry.value)
+            yield last_part(key), aside_of(entry.value)
     for key, under_way in of_older_version(members, keys).items():
         yield last_part(key), Aside(" ".join(under_way.why.split()), under_way.fails)
 
@@ -24,8 +24,23 @@ def failed(members: Members, keys: Keys) -> Iterator[tuple[str, Aside]]:
 def of_older_version(members: Members, keys: Keys) -> dict[str, UnderWay]:
     """The jobs that an older version has set aside, by the keys that say who goes on with them."""
     found = members.below(keys.whole("u")).entries
-    begun = {key: UnderWay.read(entry.value) for key, entry in found.items()}
-    return {key: under_way for key, under_way in begun.items() if under_way.is_aside()}
+    return {key: UnderWay.read(entry.value) for key, entry in found.items() if is_aside(entry.value)}
+
+
+def is_aside(text: str) -> bool:
+    """Had an older version set the job aside?"""
+    try:
+        return UnderWay.read(text).is_aside()
+    except NoForm:
+        return False
+
+
+def aside_of(text: str) -> Aside:
+    """If it hasn't its form, that is why the job is set aside."""
+    try:
+        return Aside.read(text)
+    except NoForm as why:
+        return Aside(str(why))
 
 
 def names_of(members: Members, keys: Keys, names: Iterable[str]) -> list[str]:

@@ -11,6 +11,8 @@ from dataclasses import dataclass, field
 from typing import Collection
 from zlib import crc32
 
+from .wire import bytes_of
+
 # How long a job of another worker's share is left to that, if nothing is begun meanwhile; and if something is.
 LEFT_SECONDS, LONGEST_LEFT_SECONDS = 1.0, 5.0
 # If workers choose the same jobs, each takes a smaller part of them, at least one in so many.
@@ -62,7 +64,7 @@ class Shares:
         count = min(len(every), shares_of(len(fresh)))
         if self.place >= count:
             return []
-        return [name for name, node in fresh.items() if crc32((node or name).encode()) % count == self.place]
+        return [name for name, node in fresh.items() if crc32(bytes_of(node or name)) % count == self.place]
 
     def may_have_one(self, jobs: int) -> bool:
         """Does this worker have a share of so many jobs?"""

@@ -8,8 +8,9 @@ from .counted import Counted
 from .jobs import Aside, Progress
 from .keys import Keys, last_part
 from .members import PAGE, Members
-from .past import Epoch, epochs_in, names_below, past_job, pasts
+from .past import Epoch, epochs_in, names_below, past_job, pasts, told_of
 from .refusals import Refused
+from .setting_aside import aside_of
 from .wire import Entry, reading
 
 
@@ -84,7 +85,7 @@ class Small:
             entries = counted.few.below(keys.whole(kind))
             return entries if len(entries) < PAGE else members.below(keys.whole(kind), counted.head.revision).entries
 
-        aside = {last_part(key): Aside.read(entry.value) for key, entry in all_of("a").items()}
+        aside = {last_part(key): aside_of(entry.value) for key, entry in all_of("a").items()}
         return Small(epochs_in(all_of("x")), list(map(last_part, all_of("u"))), aside)
 
 
@@ -96,7 +97,7 @@ def held_by(members: Members, keys: Keys, names: Iterable[str], revision: int) -
     for name in names:
         job, progress = found.get(keys.job(name)), found.get(keys.progress(name))
         if job is not None and progress is not None:
-            now = Progress.read(progress.value)
+            now = told_of(Progress, name, progress.value)
             whole = past_job(name, job, True)
             held[name] = (whole if now.dropped is None else whole.cut(now.dropped)).held_at(now.step)
     return held

@@ -17,7 +17,7 @@ from .keys import Keys
 from .members import Compacted, Member, Members, lost
 from .refusals import Failed
 from .waiting import NEEDS_LEADER
-from .wire import after, following
+from .wire import after, following, text_of
 
 # As many revisions are kept that weren't taken yet; then no more are read.
 MOST_KEPT = 1000
@@ -106,6 +106,6 @@ def revision_of(event: Any) -> int:
 
 
 def change_of(event: Any) -> Change:
-    value = None if event.type == DELETED else event.kv.value.decode()
-    before = event.prev_kv.value.decode() if event.HasField("prev_kv") else None
-    return Change(event.kv.key.decode(), value, event.kv.version, before)
+    value = None if event.type == DELETED else text_of(event.kv.value)
+    before = text_of(event.prev_kv.value) if event.HasField("prev_kv") else None
+    return Change(text_of(event.kv.key), value, event.kv.version, before)

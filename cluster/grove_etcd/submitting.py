@@ -13,7 +13,7 @@ from .judging import MOST_BYTES, need_legal, read_job
 from .keys import JOB_NAME, Keys
 from .members import GIVE_UP_SECONDS, MOST_OPERATIONS, Lost, Members, pauses
 from .planning import Planner, ways_of
-from .refusals import Refused
+from .refusals import NoForm, Refused
 from .sharing import Commits, Part
 from .waiting import Watched, changes
 from .weighing import last_weighing
@@ -142,7 +142,7 @@ class Submitter:
     def is_there(self, job: Job, found: Found) -> bool:
         """Has it been put before? Another one of its name is refused."""
         text = found.value(self.keys.job(job.name))
-        if text is not None and Job.read(job.name, text).accesses != job.accesses:
+        if text is not None and not is_same(job, text):
             raise Refused(f"id-taken {job.name}")
         return text is not None
 
@@ -166,10 +166,25 @@ class Submitter:
         came = changes(self.members, Watched(start, end), revision, WATCH_SECONDS)
         try:
             for change in came:
-                if change.value is not None and Progress.read(change.value).has_ended():
+                if change.value is not None and may_have_ended(change.value):
                     return
         finally:
             came.close()
+
+
+def is_same(job: Job, text: str) -> bool:
+    """Is that a job with the same list?"""
+    try:
+        return read_job(job.name, text).accesses == job.accesses
+    except Refused:
+        return False
+
+
+def may_have_ended(progress: str) -> bool:
+    try:
+        return Progress.read(progress).has_ended()
+    except NoForm:
+        return True
 
 
 def written_of(job: Job) -> Written:

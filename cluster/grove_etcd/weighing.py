@@ -1,6 +1,7 @@
 """New weights from waits, by the rule of docs/PROTOCOL.md."""
 from __future__ import annotations
 
+import re
 from dataclasses import dataclass, replace
 from typing import Iterator, Mapping
 
@@ -9,12 +10,13 @@ from .head import need_store
 from .keys import Keys
 from .loading import batches
 from .members import MOST_OPERATIONS, Members
+from .refusals import Refused
 from .values import Value
 from .weights import Weight
 from .wire import Operation, deleting_below, putting, reading
 
 # A node's waits count up to this number.
-MOST_WAITS = 1000
+MOST_WAITS, WAITS = 1000, re.compile("[0-9]{1,19}")
 
 
 @dataclass(frozen=True)
@@ -43,7 +45,7 @@ def reweigh(members: Members, keys: Keys) -> int:
         prefix = keys.all_waits(epoch)
         for key, entry in members.below(prefix).entries.items():
             path = key[len(prefix) - 1 :]
-            waits[path] = min(MOST_WAITS, waits.get(path, 0) + int(entry.value))
+            waits[path] = min(MOST_WAITS, waits.get(path, 0) + waits_of(path, entry.value))
     changed = 0
     for batch in batches(new_weights(members, keys, last.number, waits)):
         members.write(batch)
@@ -53,6 +55,12 @@ def reweigh(members: Members, keys: Keys) -> int:
     return changed
 
 
+def waits_of(path: str, text: str) -> int:
+    if not WAITS.fullmatch(text):
+        raise Refused(f"stray-waits {path}")
+    return int(text)
+
+
 def last_weighing(members: Members, keys: Keys) -> Weighing:
     text = members.get(keys.weighing()).value(keys.weighing())
     return Weighing.read(text) if text else Weighing(0, True, [])
@@ -60,8 +68,9 @@ def last_weighing(members: Members, keys: Keys) -> Weighing:
 
 def audited_epochs(members: Members, keys: Keys, open_epoch: int) -> list[int]:
     """The closed epochs whose waits stand in etcd; at most as many as one transaction deletes."""
-    waited = {int(key.split("/")[2]) for key in members.below(keys.whole("w"), keys_only=True).entries}
-    return sorted(epoch for epoch in waited if epoch < open_epoch)[: MOST_OPERATIONS - 1]
+    waited = {key.split("/")[2] for key in members.below(keys.whole("w"), keys_only=True).entries}
+    epochs = sorted(int(epoch) for epoch in waited if WAITS.fullmatch(epoch))
+    return [epoch for epoch in epochs if epoch < open_epoch][: MOST_OPERATIONS - 1]
 
 
 def new_weights(members: Members, keys: Keys, number: int, waits: Mapping[str, int]) -> Iterator[Operation]:

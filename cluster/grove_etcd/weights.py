@@ -3,6 +3,8 @@ from __future__ import annotations
 
 from dataclasses import dataclass
 
+from .refusals import NoForm
+
 
 @dataclass(frozen=True)
 class Weight:
@@ -12,7 +14,11 @@ class Weight:
 
     @staticmethod
     def read(text: str) -> Weight:
-        return Weight(*map(int, text.split()))
+        try:
+            weight, made_by, loaded = map(int, text.split())
+        except ValueError as why:
+            raise NoForm("Weight", text) from why
+        return Weight(weight, made_by, loaded)
 
     def at(self, reweighing: int) -> int:
         """The weight since that reweighing. Those that it wasn't waited for in have halved it (docs/PROTOCOL.md)."""

@@ -14,6 +14,15 @@ Operation = NewType("Operation", object)
 Request = NewType("Request", bytes)
 
 
+def text_of(content: bytes) -> str:
+    """What isn't UTF-8, as whoever may put a key can put it, is kept by a character for each byte."""
+    return content.decode(errors="surrogateescape")
+
+
+def bytes_of(text: str) -> bytes:
+    return text.encode(errors="surrogateescape")
+
+
 class Entry(NamedTuple):
     """A key's value, the revisions at which it was put last and created, and how often it was put since."""
 
@@ -49,8 +58,8 @@ class Found:
         """The same. If nothing has been parsed yet, only the responses from the last one back to the key are."""
         if "entries" in vars(self) or key in self.known:
             return self.value(key)
-        pairs, wanted = pairs_from_last(self.responses), key.encode()
-        return next((pair.value.decode() for pair in pairs if pair.key == wanted), None)
+        pairs, wanted = pairs_from_last(self.responses), bytes_of(key)
+        return next((text_of(pair.value) for pair in pairs if pair.key == wanted), None)
 
     def revision_of(self, key: str) -> int:
         """The revision at which the key was put; 0 if it isn't there, as in etcd."""
@@ -133,21 +142,21 @@ def pairs_from_last(responses: Sequence[Any]) -> Iterator[Any]:
 
 
 def entry_of(pair: Any) -> tuple[str, Entry]:
-    entry = Entry(pair.value.decode(), pair.mod_revision, pair.create_revision, pair.version)
-    return pair.key.decode(), entry
+    entry = Entry(text_of(pair.value), pair.mod_revision, pair.create_revision, pair.version)
+    return text_of(pair.key), entry
 
 
 def ranging(start: str, end: str, limit: int = 0, revision: int = 0, keys_only: bool = False) -> Any:
     """Reads the keys from `start` up to `end`, in their order."""
     return etcdrpc.RangeRequest(
-        key=start.encode(), range_end=end.encode(), limit=limit, revision=revision, keys_only=keys_only
+        key=bytes_of(start), range_end=bytes_of(end), limit=limit, revision=revision, keys_only=keys_only
     )
 
 
 def counting(prefix: str, revision: int = 0, is_at_hand: bool = False) -> Any:
     return etcdrpc.RangeRequest(
-        key=prefix.encode(),
-        range_end=after(prefix).encode(),
+        key=bytes_of(prefix),
+        range_end=bytes_of(after(prefix)),
         count_only=True,
         revision=revision,
         serializable=is_at_hand,
@@ -155,7 +164,7 @@ def counting(prefix: str, revision: int = 0, is_at_hand: bool = False) -> Any:
 
 
 def reading(key: str, revision: int = 0, keys_only: bool = False) -> Operation:
-    request = etcdrpc.RangeRequest(key=key.encode(), revision=revision, keys_only=keys_only)
+    request = etcdrpc.RangeRequest(key=bytes_of(key), revision=revision, keys_only=keys_only)
     return Operation(etcdrpc.RequestOp(request_range=request))
 
 
@@ -185,15 +194,15 @@ def reading_last(start: str, end: str, revision: int = 0, keys_only: bool = Fals
 
 
 def putting(key: str, value: str) -> Operation:
-    return Operation(etcdrpc.RequestOp(request_put=etcdrpc.PutRequest(key=key.encode(), value=value.encode())))
+    return Operation(etcdrpc.RequestOp(request_put=etcdrpc.PutRequest(key=bytes_of(key), value=bytes_of(value))))
 
 
 def deleting(key: str) -> Operation:
-    return Operation(etcdrpc.RequestOp(request_delete_range=etcdrpc.DeleteRangeRequest(key=key.encode())))
+    return Operation(etcdrpc.RequestOp(request_delete_range=etcdrpc.DeleteRangeRequest(key=bytes_of(key))))
 
 
 def deleting_from(start: str, end: str) -> Operation:
-    request = etcdrpc.DeleteRangeRequest(key=start.encode(), range_end=end.encode())
+    request = etcdrpc.DeleteRangeRequest(key=bytes_of(start), range_end=bytes_of(end))
     return Operation(etcdrpc.RequestOp(request_delete_range=request))
 
 
@@ -210,7 +219,7 @@ def choosing(guards: list[Guard], then: list[Operation], otherwise: list[Operati
 
 def unchanged(key: str, revision: int) -> Guard:
     """The key was last put at this revision; at revision 0, it isn't there."""
-    return Guard(etcdrpc.Compare(result=etcdrpc.EQUAL, target=etcdrpc.MOD, key=key.encode(), mod_revision=revision))
+    return Guard(etcdrpc.Compare(result=etcdrpc.EQUAL, target=etcdrpc.MOD, key=bytes_of(key), mod_revision=revision))
 
 
 def absent(key: str) -> Guard:
@@ -219,30 +228,30 @@ def absent(key: str) -> Guard:
 
 def put_before(key: str, revision: int) -> Guard:
     """The key was last put before this revision, or isn't there."""
-    return Guard(etcdrpc.Compare(result=etcdrpc.LESS, target=etcdrpc.MOD, key=key.encode(), mod_revision=revision))
+    return Guard(etcdrpc.Compare(result=etcdrpc.LESS, target=etcdrpc.MOD, key=bytes_of(key), mod_revision=revision))
 
 
 def present(key: str) -> Guard:
-    return Guard(etcdrpc.Compare(result=etcdrpc.GREATER, target=etcdrpc.VERSION, key=key.encode(), version=0))
+    return Guard(etcdrpc.Compare(result=etcdrpc.GREATER, target=etcdrpc.VERSION, key=bytes_of(key), version=0))
 
 
 def other_than(key: str, value: str) -> Guard:
     """The key is there, with another value."""
     return Guard(
-        etcdrpc.Compare(result=etcdrpc.NOT_EQUAL, target=etcdrpc.VALUE, key=key.encode(), value=value.encode())
+        etcdrpc.Compare(result=etcdrpc.NOT_EQUAL, target=etcdrpc.VALUE, key=bytes_of(key), value=bytes_of(value))
     )
 
 
 def watching(key: str, end: str | None = None) -> Any:
     """Watches the key, or those from it up to `end`, from now on."""
-    create = etcdrpc.WatchCreateRequest(key=key.encode(), range_end=(end or "").encode())
+    create = etcdrpc.WatchCreateRequest(key=bytes_of(key), range_end=bytes_of(end or ""))
     return etcdrpc.WatchRequest(create_request=create)
 
 
 def following(key: str, end: str, since: int) -> Any:
     """Watches the keys from this one up to `end`, from that revision on, each with what it was before."""
     create = etcdrpc.WatchCreateRequest(
-        key=key.encode(), range_end=end.encode(), start_revision=since, prev_kv=True, progress_notify=True
+        key=bytes_of(key), range_end=bytes_of(end), start_revision=since, prev_kv=True, progress_notify=True
     )
     return etcdrpc.WatchRequest(create_request=create)
 
@@ -251,7 +260,7 @@ def looking_back(key: str, end: str | None, since: int) -> Any:
     """Reads the key, or those from it up to `end`, if put at this revision or later; answered by the asked member
     alone."""
     return etcdrpc.RangeRequest(
-        key=key.encode(), range_end=(end or "").encode(), min_mod_revision=since, serializable=True
+        key=bytes_of(key), range_end=bytes_of(end or ""), min_mod_revision=since, serializable=True
     )
 
 
@@ -265,13 +274,13 @@ class Change:
 
 
 def change(event: Any) -> Change:
-    value = None if event.type == etcdrpc.DELETED else event.kv.value.decode()
-    return Change(event.kv.key.decode(), value, event.kv.mod_revision)
+    value = None if event.type == etcdrpc.DELETED else text_of(event.kv.value)
+    return Change(text_of(event.kv.key), value, event.kv.mod_revision)
 
 
 def missed(answer: Any, revision: int, there: Iterable[str] = ()) -> list[Change]:
     """By the answer to `looking_back`, what was put after the revision, and those keys of `there` that are gone."""
-    put = [Change(pair.key.decode(), pair.value.decode(), pair.mod_revision) for pair in answer.kvs]
+    put = [Change(text_of(pair.key), text_of(pair.value), pair.mod_revision) for pair in answer.kvs]
     left = {each.key for each in put}
     gone = [Change(key, None, answer.header.revision) for key in there if key not in left]
     return gone + [each for each in put if each.revision > revision]

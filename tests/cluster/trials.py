@@ -442,6 +442,8 @@ TRIALS = [
     no_work_ends_the_worker_it_is_done_by,
     no_line_is_stopped_by_what_stands_in_it,
     what_is_no_job_is_set_aside_by_name,
+    what_is_no_text_stops_nobody,
+    what_has_no_form_is_refused_by_name,
     what_is_said_to_be_fresh_again_is_not_done_again,
     an_age_that_is_none_stops_nobody,
     a_job_that_is_left_out_is_named,
