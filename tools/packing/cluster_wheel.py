@@ -13,6 +13,8 @@ sys.path.insert(0, str(Path(__file__).resolve().parents[2] / "bindings/python/bu
 import wheels  # noqa: E402
 
 NAME, TAG = "grove_etcd", "py3-none-any"
+# The document that docs/CLUSTER.md begins with.
+EXAMPLE = "examples/orders.json"
 METADATA = """\
 Metadata-Version: 2.1
 Name: {name}
@@ -40,6 +42,7 @@ def cluster_wheel(source: Source) -> Made:
     files = {file.removeprefix("cluster/"): source.read(file) for file in modules}
     for command, file in commands_of_cluster(source).items():
         files[f"{NAME}-{version}.data/scripts/{command}"] = ANY + source.read(file).removeprefix(OURS)
+    files[f"{NAME}-{version}.data/data/share/grove/{EXAMPLE}"] = source.read(EXAMPLE)
     files[f"{info}/METADATA"] = METADATA.format(**told).encode()
     files[f"{info}/WHEEL"] = WHEEL.format(**told).encode()
     files[f"{info}/RECORD"] = wheels.record(files, f"{info}/RECORD").encode()

@@ -35,7 +35,10 @@ class Chosen(unittest.TestCase):
     def test_a_task_lets_go_of_what_it_has_added(self):
         task = self.worker.chosen_for(["a"], lambda names: bool(names.update(self.worker.choose(["b"]))))
         self.assertEqual(self.worker.chosen, {"a"})
-        task()
+        self.worker.turns.take()
+        self.worker.start_thread(task)
+        for thread in list(self.worker.threads):
+            thread.join()
         self.assertEqual(self.worker.chosen, set())
 
 
