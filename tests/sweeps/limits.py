@@ -55,8 +55,10 @@ def tables(program: str, room: str, tally: Tally) -> None:
             table.write_text("".join(f"{path}\n" for path in [*tops, *(f"/{name}" for name in names)]))
             ran = run(program, "tree", *further, str(table))
             if count > MOST_NODES:
-                wanted = Ran(1, b"refused line %d too-many\n" % (MOST_NODES + len(tops)), b"")
-                tally.compare(f"{count} nodes, {further}", ran, wanted)
+                line = MOST_NODES + len(tops)
+                tally.compare(f"{count} nodes, {further}", ran, Ran(1, b"refused line %d too-many\n" % line, b""))
+                is_well = ran.hint == b"hint: line %d: a tree has at most %d nodes\n" % (line, MOST_NODES)
+                tally.note(f"{count} nodes, {further}, the hint", None if is_well else f"came {ran.hint!r}")
                 continue
             made = [node["name"] for node in json.loads(ran.out)["nodes"]] if ran.status == 0 else []
             tally.note(f"{count} nodes, {further}", None if made == ["", *names] else f"{len(made)} nodes, {ran}")

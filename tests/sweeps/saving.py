@@ -29,6 +29,13 @@ NOT_HTTP = Ran(
     b"",
     b'hint: what came is no response of HTTP; save asks "grove page" at its port, or "grove serve" at that of --http\n',
 )
+HINTS = {
+    "status": "the server answers by this status and sends no document; "
+    'is it "grove page", or "grove serve" with --http?',
+    "not-http": NOT_HTTP.hint.decode().removeprefix("hint: ").rstrip(),
+    "bad-length": "the response says no length of its document, or another one than came",
+    "": "what the server sent is no document with a tree",
+}
 # What no response begins with.
 NO_RESPONSES = (
     *(b"x", b"\n", 9000 * b"x", b'{"error":"shape"}\n'),
@@ -144,8 +151,8 @@ class Dripping(Responding):
             connection.recv(1)
 
 
-def response(body: bytes, *lines: bytes, status: bytes = b"200 OK") -> bytes:
-    return b"\r\n".join([b"HTTP/1.1 " + status, *lines, b"", body])
+def response(body: bytes, *lines: bytes, status: bytes = b"200 OK", version: bytes = b"HTTP/1.1") -> bytes:
+    return b"\r\n".join([version + b" " + status, *lines, b"", body])
 
 
 def sized(body: bytes, status: bytes = b"200 OK") -> bytes:
@@ -163,10 +170,13 @@ class Heard(Responding):
 
 
 def documents(program: str, room: str, tally: Tally) -> None:
-    """A document is taken however its head is written, and however long it is; it's asked for as a client of HTTP
-    asks."""
+    """A document is taken however its head is written, by servers of HTTP/1.0 and of later versions too, and with no
+    words behind the status; it's asked for as a client of HTTP asks."""
     lengths = (b"Content-Length: %d", b"content-length:%d", b"CONTENT-LENGTH:  %d \t", b"cOnTeNt-LeNgTh:\t%d")
     heads = [response(DOCUMENT, *before, length % len(DOCUMENT)) for length in lengths for before in ((), OTHER_FIELDS)]
+    length = lengths[0] % len(DOCUMENT)
+    heads += [response(DOCUMENT, length, version=version) for version in (b"HTTP/1.0", b"HTTP/1.2")]
+    heads += [response(DOCUMENT, length, status=status) for status in (b"200", b"200 ", b"200 All is well")]
     for text in heads:
         file = fresh(room, "document")
         with Responding(text) as server:
@@ -218,7 +228,8 @@ def exact(program: str, room: str, tally: Tally) -> None:
 
 
 def others(program: str, room: str, tally: Tally) -> None:
-    """Other statuses, bodies that are no document, bodies without a length, and what is no HTTP."""
+    """Other statuses, bodies that are no document, bodies without a length, and what is no HTTP: each by its name, with
+    its hint."""
     for text, fault in (
         (sized(b"no", status=b"404 Not Found"), b"status 404"),
         (sized(DOCUMENT, status=b"503 Busy"), b"status 503"),
@@ -239,8 +250,11 @@ def others(program: str, room: str, tally: Tally) -> None:
     ):
         file = fresh(room, "other")
         with Responding(text) as server:
-            wanted = Ran(REFUSED, b"refused " + fault + b"\n", b"")
-            tally.compare(f"{text[:60]!r}", save(program, server.port, file), wanted)
+            ran = save(program, server.port, file)
+        tally.compare(f"{text[:60]!r}", ran, Ran(REFUSED, b"refused " + fault + b"\n", b""))
+        hint = HINTS.get(fault.decode().split()[0], HINTS[""])
+        is_well = ran.hint == f"hint: {hint}\n".encode()
+        tally.note(f"{text[:60]!r}, its hint", None if is_well else f"wanted {hint!r}; came {ran.hint!r}")
         note_folder(tally, "as it was", file, OLD)
 
 
