@@ -26,6 +26,8 @@ SVG = "{http://www.w3.org/2000/svg}"
 # What light, dark and a stroke mean, in the SVG and in the text.
 KEY_SHOWN = ["held", "accessed", "locked and released at one slot"]
 KEY = "key: get=== accesses the node, ------ holds it, | locks and releases it at one slot"
+# How large letters are, of other texts than those of a row.
+SIZES = {"title": 14, "small": 11, "word": 12}
 # How wide the names of a drawing in letters are at most, and of how many accesses each has room for its word.
 WIDEST_NAME, FEW = 30, 12
 NEAR = (-1, 0, 1, 2)
@@ -35,6 +37,7 @@ def tries(program: str, _room: str) -> list[Try]:
     return [Try(f"seeded document {seed}", partial(draw_each, program, seed)) for seed in range(SEEDED)] + [
         Try("names about as long as there is room for", partial(widest_names, program)),
         Try("about as many accesses as have room for their words", partial(few_accesses, program)),
+        Try("names of a document's plan alone", partial(names_of_own, program)),
     ]
 
 
@@ -124,8 +127,11 @@ def in_svg(text: str, wanted: list[dict]) -> Iterator[str]:
         yield f"the bars don't add up to the cost: {came}"
     boxes = [box for it in top.iter() if (box := box_of(it)) and "bar" in it.get("class", "")]
     yield from (f"bars overlap: {one} and {other}" for one, other in combinations(boxes, 2) if overlap(one, other))
-    width = float(top.get("width"))
+    width, height = float(top.get("width")), float(top.get("height"))
     yield from (f"a bar is outside: {box}" for box in boxes if box[0] < 0 or box[2] > width)
+    texts = [text_box(it) for it in top.iter(f"{SVG}text")]
+    yield from (f"a text is outside: {box}" for box in texts if not (0 <= box[0] and box[2] <= width and box[3] <= height))
+    yield from (f"texts overlap: {one} and {other}" for one, other in combinations(texts, 2) if overlap(one, other))
     for plan in plans:
         yield from misplaced(plan)
 
@@ -161,6 +167,16 @@ def box_of(shape) -> tuple[float, float, float, float] | None:
         return None
     x, y, width, height = (float(shape.get(name)) for name in ("x", "y", "width", "height"))
     return (x, y, x + width, y + height)
+
+
+def text_box(text) -> tuple[float, float, float, float]:
+    """The left, upper, right and lower end of a text: each letter has the same width, which goes by the size."""
+    kind = text.get("class", "").split()
+    size = next((size for name, size in SIZES.items() if name in kind), 13)
+    wide = 0.6 * size * len("".join(text.itertext()))
+    x, y = float(text.get("x")), float(text.get("y"))
+    left = x - wide if "end" in kind else x - wide / 2 if "middle" in kind else x
+    return (left, y - 0.7 * size, left + wide, y)
 
 
 def overlap(one: tuple, other: tuple) -> bool:
@@ -217,6 +233,19 @@ def widest_names(program: str, tally: Tally) -> None:
         wanted = path if len(path) <= WIDEST_NAME else f"..{path[2 - WIDEST_NAME :]}"
         shown = ran.out.decode().splitlines()[2].split(" ")[0] if ran.status == 0 else ""
         tally.note(f"{len(path)} letters", None if shown == wanted else f"wanted {wanted!r}; came {ran}")
+
+
+def names_of_own(program: str, tally: Tally) -> None:
+    """A document's plan that locks a node with the longest name, which the settled plan doesn't."""
+    rows = [{"parent": 0 if at else None, "name": name, "weight": 1} for at, name in enumerate(("", "a", "n" * 32))]
+    long, document = f"/{'n' * 32}", {"nodes": rows, "list": [["get", "/a"]]}
+    settled = [["lock", "/a"], ["access", 0], ["unlock", "/a"]]
+    paths = ("/", "/a", long)
+    own = [["lock", path] for path in paths] + [["access", 0]] + [["unlock", path] for path in reversed(paths)]
+    wanted = [told_of(document, steps) for steps in (own, settled)]
+    text = json.dumps(document | {"plan": own}).encode()
+    tally.note("as SVG", drawing_fault(run(program, "draw", text=text), in_svg, wanted))
+    tally.note("as text", drawing_fault(run(program, "draw", "--text", text=text), in_text, wanted))
 
 
 def few_accesses(program: str, tally: Tally) -> None:
