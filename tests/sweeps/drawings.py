@@ -210,6 +210,9 @@ def in_text(text: str, wanted: list[dict]) -> Iterator[str]:
     if len(wanted) == 2 and f"\nsaved: {costs[0] - costs[1]}\n" not in text:
         yield "what is saved isn't told"
     lines = text.splitlines()
+    strokes = ["|" in line for line in lines if re.search(r"\d+ x \d+ = \d+$", line)]
+    if strokes != [row["cost"][1] == 0 for it in wanted for row in it["rows"]]:
+        yield f"a stroke is missing, or one too many: {strokes}"
     if any(len(line) > 130 for line in lines):
         yield "a line is longer than a terminal is wide"
     accesses = [line for line in lines if line.startswith("access ")]
@@ -236,12 +239,12 @@ def widest_names(program: str, tally: Tally) -> None:
 
 
 def names_of_own(program: str, tally: Tally) -> None:
-    """A document's plan that locks a node with the longest name, which the settled plan doesn't."""
+    """A document's plan that locks a node with the longest name behind all accesses, which the settled plan doesn't."""
     rows = [{"parent": 0 if at else None, "name": name, "weight": 1} for at, name in enumerate(("", "a", "n" * 32))]
     long, document = f"/{'n' * 32}", {"nodes": rows, "list": [["get", "/a"]]}
     settled = [["lock", "/a"], ["access", 0], ["unlock", "/a"]]
-    paths = ("/", "/a", long)
-    own = [["lock", path] for path in paths] + [["access", 0]] + [["unlock", path] for path in reversed(paths)]
+    before = [["lock", "/"], ["lock", "/a"], ["access", 0]]
+    own = [*before, ["lock", long], *(["unlock", path] for path in (long, "/a", "/"))]
     wanted = [told_of(document, steps) for steps in (own, settled)]
     text = json.dumps(document | {"plan": own}).encode()
     tally.note("as SVG", drawing_fault(run(program, "draw", text=text), in_svg, wanted))

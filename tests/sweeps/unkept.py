@@ -1,6 +1,6 @@
 """Servers whose rounds can't be kept any more: what each port says in the second before all connections end, what is
 logged of it, how soon and how the server ends, and that it has kept what there was room for. And servers that have no
-thread to end the connections then."""
+thread to end the connections then. And a client that comes just while all connections are closed."""
 
 from __future__ import annotations
 
@@ -22,6 +22,7 @@ from sweeps.connections import flood
 from sweeps.data import BATCH, FRAME, LONGEST, ROOM, ROUNDS, ended, fresh, limit_files, opened, round_of
 from sweeps.doors import DOORS, Asking, Door
 from sweeps.idle import UNTAKEN, narrow
+from sweeps.looks import holding
 from sweeps.preloaded import library_of
 from sweeps.program import MEMORY, Tally, Try, because, run, until_well
 from sweeps.ten_lines import TREE, WEIGHTS
@@ -59,12 +60,13 @@ class TooLate(Exception):
 
 
 def tries(program: str, room: str) -> list[Try]:
-    library = library_of("refuse_threads", room)
+    library, held = (library_of(name, room) for name in ("refuse_threads", "hold_threads"))
     fails_at = [(door, door) for door in DOORS] + [(SECOND, SESSIONS)]
     parts = [
         Try(f"{door.name}, a round that {at.name} asks for", partial(tried_again, program, room, door, at))
         for door, at in fails_at
     ]
+    parts += [Try(f"{door.name}, who comes meanwhile", partial(meanwhile, program, room, held, door)) for door in DOORS]
     return parts + [
         Try(f"{door.name}, no thread for the end", partial(unguarded, program, room, library, door)) for door in DOORS
     ]
@@ -115,6 +117,12 @@ class Failing:
         self.broken.append(rf"level=warn event=ended connection={number} lines=[0-9]+ why={why}")
         self.server.told_of(number)
 
+    def has_taken(self) -> bool:
+        """Whether a session whose client takes nothing still had room for its replies, and so came to its end."""
+        numbers = [re.search(r"connection=([0-9]+)", form)[1] for form in self.broken]
+        ends = [rf"level=error event=ended connection={number} lines=[0-9]+ why=unkept" for number in numbers]
+        return any(re.fullmatch(end, line) for end in ends for line in self.server.told())
+
     def note(self, client: socket.socket, door: Door, is_refused: bool) -> None:
         number = len(self.arrivals) + 1
         self.arrivals.append(arrival(number, client))
@@ -148,6 +156,8 @@ def fail(program: str, room: str, door: Door, at: Door, tally: Tally) -> str | N
             return "it ended before all was asked"
         note_end(server, file, tally)
         took = time.monotonic() - began
+        if failing.has_taken():
+            return "a client that takes nothing had room for all replies"
         note_log(failing, tally)
     tally.note("how soon", None if took > STATE_SECONDS * 0.9 else f"it ended after {took:.2f} s")
     note_file(program, file, kept, tally)
@@ -241,6 +251,31 @@ def size_of_torn(program: str, file: Path) -> int:
     """How many bytes at the end are of a round that isn't whole."""
     words = run(program, "data", "--check", str(file)).out.split()
     return int(words[-1]) if b"torn" in words else 0
+
+
+# ---- who comes while they are closed
+
+
+def meanwhile(program: str, room: str, library: str, door: Door, tally: Tally) -> None:
+    """A client that was accepted before all connections are closed, and whose thread starts only then: it is closed
+    too, and the server ends though it stays."""
+    file = fresh(room)
+    with ExitStack() as stack:
+        # (A thread ends the connections, a second port has one, and each client.)
+        held = stack.enter_context(holding(library, 1 + door.is_second + 3))
+        how = {"preexec_fn": partial(limit_files, ROOM), **held.how}
+        server = stack.enter_context(door.serving(program, TREE, ("--data", str(file)), **how))
+        asks, stays, late = (stack.enter_context(Asking(door, server.port, BATCH)) for _ in range(3))
+        tally.note("its thread", None if held.is_held() else "none is held")
+        rounds_kept(asks, tally)
+        tally.note("who stays", f"came {came!r}" if (came := stays.stream.read()) else None)
+        os.write(held.until, b"x")
+        tally.note("who comes", f"came {came!r}" if (came := late.stream.read()) else None)
+        try:
+            status = server.started.wait(LONGEST)
+        except subprocess.TimeoutExpired:
+            status = None
+        tally.note("the end", None if status == 3 else f"its status is {status}")
 
 
 # ---- no thread that ends the connections
