@@ -38,6 +38,7 @@ def tries(program: str, _room: str) -> list[Try]:
         Try("names about as long as there is room for", partial(widest_names, program)),
         Try("about as many accesses as have room for their words", partial(few_accesses, program)),
         Try("names of a document's plan alone", partial(names_of_own, program)),
+        Try("accesses of each kind and length", partial(lengths, program)),
     ]
 
 
@@ -249,6 +250,20 @@ def names_of_own(program: str, tally: Tally) -> None:
     text = json.dumps(document | {"plan": own}).encode()
     tally.note("as SVG", drawing_fault(run(program, "draw", text=text), in_svg, wanted))
     tally.note("as text", drawing_fault(run(program, "draw", "--text", text=text), in_text, wanted))
+
+
+def lengths(program: str, tally: Tally) -> None:
+    """Accesses of one slot, said or not, of two, of three and of as many as there may be, by each operation."""
+    rows = [{"parent": 0 if at else None, "name": name, "weight": 3 - at} for at, name in enumerate(("", "a", "b"))]
+    each = (("get",), ("set", 4), ("add", -(2**63)), ("take", 2**63 - 1))
+    for length in ((), (1,), (2,), (3,), (1000,)):
+        accesses = [[word, "/a" if at % 2 else "/b", *number, *length] for at, (word, *number) in enumerate(each)]
+        document = {"version": 2, "nodes": rows, "list": accesses}
+        text = json.dumps(document).encode()
+        told = run(program, "plan", text=text).out.decode().splitlines()[1]
+        wanted = [told_of(document, json.loads(told.removeprefix("plan ")))]
+        tally.note(f"{length} as SVG", drawing_fault(run(program, "draw", text=text), in_svg, wanted))
+        tally.note(f"{length} as text", drawing_fault(run(program, "draw", "--text", text=text), in_text, wanted))
 
 
 def few_accesses(program: str, tally: Tally) -> None:
