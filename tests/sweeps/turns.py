@@ -1,20 +1,24 @@
 """The turns of lines at the store, by what `/metrics` counts of them. A turn is held until so many lines wait: the next
 one has just these, up to sixteen. How long a turn takes is counted in its bucket, by clocks that go faster too. And who
-looks for a later round is told soon after it, whatever its number."""
+looks for a later round is told soon after it, whatever its number. Long bodies have their turns one body after the
+other, and replies go out by 64 KiB."""
 
 from __future__ import annotations
 
 import json
 import os
+import socket
 import time
 from contextlib import ExitStack
 from functools import partial
 
 from batches import MOST_ACCESSES
+from pages import MOST_KEPT
 from server import Serving, connected
 from store import compact
 from web import Client, Response, post, request
 
+from sweeps.doors import DOORS, Door
 from sweeps.looks import ADD_ONE, FLAT, comes_to_wait, holding, two_new_lists
 from sweeps.metrics import LARGE, LISTS, TIMES, Both, metrics_at, note_bucket
 from sweeps.preloaded import library_of
@@ -37,6 +41,12 @@ SIZES = sorted({round(1.25**power) for power in range(25)})
 ROUNDS, SOON = 20, 0.5
 LONGEST_LOOK, LOOK_CLOCK = 30, 10
 NEVER = "/nodes?after=18446744073709551615"
+# How many bodies come at once, and how often those are tried of which each is to be answered alone.
+BODIES, TIMES_LONG = 4, 5
+# So many bytes of replies go out together at most, and a reply of a tree of so many nodes has so many of them.
+MOST_HELD, NODES, REPLY_BYTES = 65_536, 58, 256
+# How many such replies a client asks for ahead, of which the last ones may be with the round that is held.
+ASKED, LAST = 600, 16
 
 
 def tries(program: str, room: str) -> list[Try]:
@@ -44,7 +54,10 @@ def tries(program: str, room: str) -> list[Try]:
     parts = [Try(f"turns of {count} lines", partial(together, program, held, count)) for count in COUNTS]
     parts += [Try("lines that a turn leaves over", partial(left_over, program, held))]
     parts += [Try(f"times by a clock {times} times as fast", partial(timed, program, clock, times)) for times in CLOCKS]
+    doors = [door for door in DOORS if door.is_http]
+    parts += [Try(f"{door.name}, long bodies at once", partial(long_bodies, program, door)) for door in doors]
     return parts + [
+        Try("replies that go out together", partial(sent_together, program, held)),
         Try("how soon a round is told of", partial(told_soon, program)),
         Try("how long a look waits", partial(waits_in_vain, program, clock)),
     ]
@@ -99,13 +112,15 @@ def note_sizes(sizes: list[int], more: dict[str, float], tally: Tally) -> None:
     """What is counted more is that of turns of so many lines."""
     wanted = {f'{LINES}_bucket{{le="{bound}"}}': sum(size <= bound for size in sizes) for bound in LINE_BOUNDS}
     wanted |= {f'{LINES}_bucket{{le="+Inf"}}': len(sizes), f"{LINES}_count": len(sizes), f"{LINES}_sum": sum(sizes)}
+    # Each of them has its time.
+    wanted[f"{TIMES}_count"] = len(sizes)
     tally.note("the turns", None if more == wanted else f"wanted {wanted}; came {more}")
 
 
 def counted_lines(client: Client) -> dict[str, float]:
-    """What is counted of how many lines turns have."""
+    """What is counted of how many lines turns have, and how many have a time."""
     text = client.get("/metrics").body.decode()
-    rows = [line.rpartition(" ") for line in text.splitlines() if line.startswith(LINES)]
+    rows = [line.rpartition(" ") for line in text.splitlines() if line.startswith((LINES, f"{TIMES}_count"))]
     return {name: float(value) for name, _, value in rows}
 
 
@@ -137,6 +152,79 @@ def note_turn(
     tally.note(where, None if is_well else f"of {passed:.6f} s {took:.6f} s were counted; {reply[:40]!r}")
     note_bucket(TIMES, before, after, took, where, tally)
     return after
+
+
+# ---- bodies and replies
+
+
+def long_bodies(program: str, door: Door, tally: Tally) -> None:
+    """Of bodies of more than 65,536 bytes one at a time is answered, so all lines of one come before those of another.
+    Lines of bodies of so many bytes, or one less, come in between those of others, in one of some tries."""
+    for size in (MOST_KEPT - 1, MOST_KEPT, MOST_KEPT + 1):
+        with door.serving(program) as server:
+            look = partial(one_by_one, server.port, size, tally)
+            if size <= MOST_KEPT:
+                until_well(look, f"bodies of {size} bytes", tally)
+                continue
+            for number in range(TIMES_LONG):
+                is_well = look() is not None
+                tally.note(f"bodies of {size} bytes, time {number}", None if is_well else "lines of two are mixed")
+
+
+def one_by_one(port: int, size: int, tally: Tally) -> str | None:
+    """Whether all lines of each of some bodies that come at once are done before, or behind, those of each other."""
+    count = size // len(ADD)
+    body = ADD * (count - 1) + ADD.rstrip(b"\n").ljust(size - len(ADD) * (count - 1) - 1) + b"\n"
+    with ExitStack() as stack:
+        clients = [stack.enter_context(Client(port)) for _ in range(BODIES)]
+        for client in clients:
+            client.send(post(body))
+        each = [[reply_in(line) for line in client.next().body.splitlines()] for client in clients]
+    # (Each line adds one to a record, and replies the sum: so the sums say which lines came first.)
+    sums = sorted(number for numbers in each for number in numbers)
+    is_well = sums == list(range(sums[0], sums[0] + BODIES * count))
+    tally.note("the sums", None if is_well else f"{len(sums)}, from {sums[0]} to {sums[-1]}")
+    spans = sorted((numbers[0], numbers[-1]) for numbers in each)
+    is_apart = all(one[1] < other[0] for one, other in zip(spans, spans[1:]))
+    return "the lines of each body are apart" if is_apart else None
+
+
+def reply_in(line: bytes) -> int:
+    return json.loads(line)["replies"][0][0]
+
+
+def sent_together(program: str, library: str, tally: Tally) -> None:
+    """Behind many lines whose replies have 256 bytes comes a round that is held. By then replies went out 257 at a time:
+    those that fill 65,536 bytes, with the one for which there was no room. It is tried until the server has read all of
+    the lines at once."""
+    until_well(partial(sent_by_then, program, library, tally), "what went out", tally)
+
+
+def sent_by_then(program: str, library: str, tally: Tally) -> str | None:
+    """Whether other replies went out before the round that is held."""
+    together = MOST_HELD + REPLY_BYTES
+    wanted = (ASKED - LAST) * REPLY_BYTES // together * together
+    with ExitStack() as stack:
+        held = stack.enter_context(holding(library, 2))
+        server = stack.enter_context(Serving(program, compact({"nodes": FLAT[:NODES]}), 2, any_port=True, **held.how))
+        client = stack.enter_context(connected(server.port))
+        client.sendall(WEIGHTS * ASKED + two_new_lists(0) + b"\n")
+        tally.note("the round", None if held.is_held() else "none is held")
+        came = client.recv(wanted, socket.MSG_WAITALL)
+        client.setblocking(False)
+        try:
+            came += client.recv(MOST_HELD)
+        except BlockingIOError:
+            pass
+        os.write(held.until, b"x")
+        client.setblocking(True)
+        client.shutdown(socket.SHUT_WR)
+        with client.makefile("rb") as stream:
+            lines = (came + stream.read()).splitlines(keepends=True)
+    sizes = {len(line) for line in lines[:ASKED]}
+    is_well = len(lines) == ASKED + 1 and sizes == {REPLY_BYTES}
+    tally.note("all replies", None if is_well else f"{len(lines)} of {sizes} bytes")
+    return None if len(came) == wanted else f"{len(came)} bytes came, and not {wanted}"
 
 
 # ---- looks
