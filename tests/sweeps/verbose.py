@@ -9,6 +9,7 @@ import re
 import resource
 import socket
 import struct
+import subprocess
 import tempfile
 import time
 from concurrent.futures import ThreadPoolExecutor
@@ -95,6 +96,7 @@ def tries(program: str, room: str) -> list[Try]:
         "a line that is too long": partial(long_line, program),
         "a line that no hint looks into": partial(line_not_looked_into, program),
         "hints": partial(hints, program),
+        "hints beside other options": partial(hints_beside, program),
         "standard error that fails": partial(no_errors, program),
         "without --verbose": partial(quiet, program),
     }
@@ -223,8 +225,9 @@ def done(number: int, lines: int, door: Door) -> str:
 
 
 def in_turn(program: str, further: tuple[str, ...], door: Door, tally: Tally) -> None:
-    """Connections with seeded lines, the next of which comes once the end of the one before is told."""
-    random, store, wanted = Random("verbose"), Store(json.loads(TREE)), []
+    """Connections with seeded lines, the next of which comes once the end of the one before is told. Each event has its
+    time."""
+    random, store, wanted, began = Random("verbose"), Store(json.loads(TREE)), [], time.time()
     with Telling(program, further, door=door) as server:
         for number in range(1, 41):
             if number % 12 == 0:
@@ -240,6 +243,17 @@ def in_turn(program: str, further: tuple[str, ...], door: Door, tally: Tally) ->
         compare(wanted, server.told_of(len(wanted)), tally)
         is_formed = [line.startswith("{") == bool(further) for line in server.lines()]
         tally.note("the form", None if all(is_formed) else "lines of both forms came")
+        note_times(server.lines(), began, tally)
+
+
+def note_times(lines: list[str], began: float, tally: Tally) -> None:
+    """Each line has the time at which it came, to the millisecond: none is earlier than the one before."""
+    each = [json.loads(line)["time"] if line.startswith("{") else line.split()[0][len("time=") :] for line in lines]
+    times = [datetime.fromisoformat(text.replace("Z", "+00:00")).timestamp() for text in each]
+    is_well = began - 0.001 <= times[0] and times == sorted(times) and times[-1] <= time.time()
+    tally.note("the times", None if is_well else f"from {each[0]} to {each[-1]}")
+    # (Some forty connections don't all come in the first millisecond of a second.)
+    tally.note("their milliseconds", None if len({text[-4:] for text in each}) > 1 else f"{each[0]}, {each[-1]}")
 
 
 def too_many(program: str, tally: Tally) -> None:
@@ -617,6 +631,18 @@ def note_hints(
         wanted.append(done(1, len(rows), door))
         compare(wanted, server.told_of(len(wanted)), tally)
     tally.note(f"the replies {words}", None if lines_of(came) == replies else f"came {came[:2000]!r}")
+
+
+def hints_beside(program: str, door: Door, tally: Tally) -> None:
+    """Whatever else a server is asked for, a refusal has its hint in the reply with `--hints`, and else not."""
+    options = [(), ("--idle", "600"), ("--busy",), ("--verbose",), ("--verbose", "--log", "json")]
+    options += [("--idle", "600", "--busy", "--verbose")] + [("--host", "grove.example")] * door.is_http
+    for further in options:
+        for words, wanted in (((), {"error"}), (("--hints",), {"error", "hint"})):
+            with door.serving(program, further=(*further, *words), stderr=subprocess.DEVNULL) as server:
+                with connected(server.port) as client:
+                    came = ask(client, SHAPE, door)
+            tally.note(f"{further} {words}", None if json.loads(came).keys() == wanted else f"came {came!r}")
 
 
 def refused_row(at: int, row: dict) -> str:
