@@ -18,7 +18,7 @@ from server import HOST, Serving, free_port
 from store import Store, compact
 
 from sweeps.canned import Canned
-from sweeps.program import DEVICE, Ran, Tally, Try, because, run
+from sweeps.program import DEVICE, Ran, Tally, Try, because, run, until_well
 from sweeps.talks import lines_of, look, note_replies
 from sweeps.ten_lines import ADD, REPLIES, TEXT, TREE, WEIGHTS
 
@@ -28,6 +28,8 @@ OK, REFUSED = 0, 1
 REPLY = b'{"places":[0],"replies":[[1]],"round":1}\n'
 # For how long a silent server is waited for here, and how long a client may take to end.
 WAITED, LONGEST = 2.0, 30.0
+# How many lines are timed, and how late an arrival may be told.
+LINES_SOON, DELAY = 50, 0.04
 # So many hints of one run are printed.
 MOST_HINTS = 100
 # A line has at most so many bytes.
@@ -44,6 +46,7 @@ def tries(program: str, room: str) -> list[Try]:
         Try("hints", partial(hints, program)),
         Try("lines that are too long", partial(long_lines, program)),
         Try("many lines", partial(many, program)),
+        Try("how long lines take", partial(soon, program)),
         Try("no server", partial(nobody, program)),
         Try("servers that are lost", partial(lost, program)),
         Try("how a server is lost", partial(how_lost, program)),
@@ -143,6 +146,21 @@ def many(program: str, tally: Tally) -> None:
     text = 3000 * WEIGHTS + 20 * ADD + look(store)
     with Serving(program, TREE) as server:
         note_replies(store, text, ask(program, server.port, text=text).out, "many", tally)
+
+
+def soon(program: str, tally: Tally) -> None:
+    """No line waits until what was sent before it has arrived, which takes 40 milliseconds where that is told late."""
+    until_well(partial(lines_late, program, tally), "the time", tally)
+
+
+def lines_late(program: str, tally: Tally) -> str | None:
+    """How long lines took, if it was as if most of them had waited."""
+    with Serving(program, TREE) as server:
+        began = time.monotonic()
+        ran = ask(program, server.port, text=LINES_SOON * WEIGHTS)
+        took = time.monotonic() - began
+    tally.note("the lines", None if ran.out.count(b"\n") == LINES_SOON else f"came {ran}")
+    return f"{took:.2f} s" if took > LINES_SOON * DELAY / 2 else None
 
 
 def nobody(program: str, tally: Tally) -> None:

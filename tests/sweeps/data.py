@@ -16,8 +16,10 @@ from concurrent.futures import ThreadPoolExecutor
 from contextlib import ExitStack, suppress
 from functools import partial
 from pathlib import Path
+from random import Random
 from typing import Callable
 
+from batches import shelves
 from exposition import samples_in
 from log_file import Standing, file_of
 from server import NotListening, Server, Serving, connected, free_port, talk, talk_in_turn
@@ -26,7 +28,7 @@ from web import BadResponse, Client, Response, post, response_of
 
 from sweeps.descriptors import close_two
 from sweeps.preloaded import library_of
-from sweeps.program import MEMORY, Ran, Tally, Try, because, run
+from sweeps.program import MEMORY, Ran, Tally, Try, because, run, until_well
 from sweeps.server_growths import parts_of
 from sweeps.ten_lines import ADD, GET, TREE, WEIGHTS
 from sweeps.threads import counting
@@ -41,6 +43,8 @@ ROOM, ROUNDS = 4096, 200
 BATCH = b'{"batch":[[["add","/a",1]]]}\n'
 DOCUMENTS = json.loads(TREE)["nodes"]
 FRAME = 40
+# The greatest weight, and the most waits that are counted.
+MOST_NUMBER = 1000
 # No more rounds are counted.
 MOST_ROUNDS = 2**64 - 1
 # How many letters a name has at most; a path has as many names.
@@ -73,6 +77,8 @@ def tries(program: str, room: str) -> list[Try]:
         Try("names of each length", partial(names, program, room)),
         Try("the last round that is counted", partial(last_round, program, room)),
         Try("waits of each node", partial(waits, program, room)),
+        Try("numbers about as large as they may be", partial(limits, program, room)),
+        Try("waits up to the most", partial(most_waits, program, room)),
         Try("other documents beside the file", partial(other_documents, program, room)),
         Try("no file, an empty one, and no document", partial(nothing_there, program, room)),
         Try("two servers of one file", partial(taken, program, room)),
@@ -235,6 +241,45 @@ def waits(program: str, room: str, tally: Tally) -> None:
         samples = samples_in(client.get("/metrics?nodes=1").body.decode())
         counted = tuple(samples[f'grove_node_waits{{path="{path}"}}'] for path in paths)
         tally.note("the metrics", None if counted == standing.waits else f"came {counted}")
+
+
+def limits(program: str, room: str, tally: Tally) -> None:
+    """Weights and waits that no store has aren't opened; those at each end are, and so are all records and rounds."""
+    for which, number, is_well in (
+        *(("weights", weight, 1 <= weight <= MOST_NUMBER) for weight in (0, 1, 2, MOST_NUMBER, MOST_NUMBER + 1)),
+        *(("waits", count, count <= MOST_NUMBER) for count in (0, 1, MOST_NUMBER, MOST_NUMBER + 1, 2**32, 2**64 - 1)),
+        *(("records", record, True) for record in (LEAST, -1, MOST)),
+        *(("rounds", rounds, True) for rounds in (0, MOST_ROUNDS)),
+    ):
+        numbers = {"weights": (5, 6), "records": (7, 8), "waits": (9, 10), "rounds": 11}
+        numbers[which] = number if which == "rounds" else (numbers[which][0], number)
+        file, standing = fresh(room), Standing(**numbers)
+        data = file_of(bytes(range(32)), [(None, b""), (0, b"a")], [standing])
+        file.write_bytes(data)
+        told = Ran(0, f"rounds {standing.rounds}\nbytes {len(data)}\nwhole\n".encode(), b"")
+        wanted = told if is_well else because(f"cannot open {file}: what it has is no store")
+        tally.compare(f"{which} {number}", run(program, "data", "--check", str(file)), wanted)
+
+
+def most_waits(program: str, room: str, tally: Tally) -> None:
+    """Waits are counted up to 1,000. It is tried until some node with 998 was waited for twice by a long round."""
+    until_well(partial(waits_beyond, program, room, tally), "waits", tally)
+
+
+def waits_beyond(program: str, room: str, tally: Tally) -> str | None:
+    """Whether no node had more waits than are counted."""
+    batch = shelves(Random("waits up to the most"))
+    nodes, file = batch["nodes"], fresh(room)
+    count = len(nodes)
+    before = Standing((1,) * count, (0,) * count, (MOST_NUMBER - 2,) * (count - 1) + (MOST_NUMBER,), 0)
+    names = [(node["parent"], node["name"].encode()) for node in nodes]
+    file.write_bytes(file_of(bytes(range(32)), names, [before]))
+    with opened(program, file, "--workers", "4") as server:
+        came = server.talk(compact({"batch": batch["lists"]}) + b"\n" + WEIGHTS)
+    found = json.loads(came.splitlines()[-1])["waits"]
+    is_well = MOST_NUMBER - 2 <= min(found) and max(found) == found[-1] == MOST_NUMBER
+    tally.note("the waits", None if is_well else f"{found}")
+    return None if MOST_NUMBER in found[:-1] else f"the most are {max(found[:-1])}"
 
 
 def other_documents(program: str, room: str, tally: Tally) -> None:
@@ -541,8 +586,13 @@ def counted(program: str, room: str, tally: Tally) -> None:
 
 
 def ahead(program: str, room: str, clients: int, tally: Tally) -> None:
-    """What a client has sent ahead shares a sync, and may share it with what others have. Each line is a round later
-    than the one before it, and what was replied is there after a kill."""
+    """What a client has sent ahead shares a sync, and shares it with what others have, in one of some tries."""
+    until_well(partial(ahead_once, program, room, clients, tally), "the syncs", tally)
+
+
+def ahead_once(program: str, room: str, clients: int, tally: Tally) -> str | None:
+    """Each line is a round later than the one before it, and what was replied is there after a kill. Whether most of
+    what clients sent shared no sync with what others did."""
     file, second = fresh(room), free_port()
     with made(program, file, "--http", str(second)) as server:
         server.started.stdout.readline()
@@ -563,6 +613,8 @@ def ahead(program: str, room: str, clients: int, tally: Tally) -> None:
     tally.note("the syncs", None if 0 < syncs <= clients * TURNS else f"{syncs} of {last} rounds")
     wanted = f"rounds {last}\nbytes {file.stat().st_size}\nwhole\n".encode()
     tally.compare("afterwards", run(program, "data", "--check", str(file)), Ran(0, wanted, b""))
+    is_shared = clients == 1 or syncs <= clients * TURNS / 2
+    return None if is_shared else f"{syncs} syncs are hardly shared by {clients} clients"
 
 
 def in_turns(port: int) -> list[bytes]:

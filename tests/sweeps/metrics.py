@@ -8,6 +8,7 @@ import os
 import re
 import shutil
 import socket
+import struct
 import subprocess
 import time
 from contextlib import ExitStack, suppress
@@ -21,7 +22,7 @@ from web import Client, post, request
 
 from sweeps.idle import UNTAKEN, large_tree, narrow
 from sweeps.preloaded import library_of
-from sweeps.program import Tally, Try
+from sweeps.program import Ran, Tally, Try, run
 from sweeps.talks import lines_of
 from sweeps.ten_lines import ADD, GET, TREE, WEIGHTS
 
@@ -166,7 +167,8 @@ def lines_and_bytes(program: str, tally: Tally) -> None:
     before = time.time()
     with Both(program) as server:
         at_first = {"grove_lines_total": 0, "grove_rounds_total": 0, "grove_round_lines_count": 0}
-        note(at_first, metrics_at(server.http), "at first", tally)
+        found = metrics_at(server.http)
+        note(at_first, found, "at first", tally)
         text, count = b"".join(LINES), len(LINES)
         came = server.talk(text)
         wanted = {
@@ -185,8 +187,9 @@ def lines_and_bytes(program: str, tally: Tally) -> None:
             **by_protocol("grove_connection_slots", SLOTS, HTTP_SLOTS),
         }
         once_well(server.http, wanted, "after the lines", tally)
-        started = metrics_at(server.http)["process_start_time_seconds"]
+        started = found["process_start_time_seconds"]
         tally.note("the start", None if before - 2 <= started <= time.time() else f"it is {started}")
+        note({"process_start_time_seconds": started}, metrics_at(server.http), "it stays", tally)
 
 
 def bodies(program: str, tally: Tally) -> None:
@@ -283,6 +286,8 @@ def left_looks(program: str, tally: Tally) -> None:
             look.send(request("GET", "/nodes?after=9"))
         once_well(server.http, by_protocol("grove_connections", 0, LOOKS + 1), "they wait", tally)
         started = time.monotonic()
+        # (One of them breaks off, as a client does that is ended with something unread.)
+        looks[1].connection.setsockopt(socket.SOL_SOCKET, socket.SO_LINGER, struct.pack("ii", 1, 0))
         for look in looks[1:]:
             look.close()
         looks[0].connection.shutdown(socket.SHUT_WR)
@@ -502,6 +507,8 @@ def bytes_of_file(program: str, room: str, tally: Tally) -> None:
             tally.note(f"round {rounds}", None if size == first + each * behind else f"the file has {size} bytes")
             if rounds < 3 or rounds > most - 3:
                 note(wanted, metrics_at(server.http), f"round {rounds}", tally)
+                told = Ran(0, f"rounds {rounds}\nbytes {size}\nwhole\n".encode(), b"")
+                tally.compare(f"round {rounds}, grove data", run(program, "data", "--check", str(file)), told)
 
 
 def each_name(program: str, tally: Tally) -> None:

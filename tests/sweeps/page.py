@@ -519,6 +519,10 @@ def waiting_in_vain(program: str, tally: Tally) -> None:
         for client, target in zip(waits, asked):
             client.send(request("GET", target))
         note_rows(asks, store, [("POST", "/", b'{"reweigh":null}')], "meanwhile", tally)
+        # Of a node that there isn't nothing is waited for.
+        note_rows(asks, store, [("GET", "/nodes?after=1&below=/c", None)], "no node", tally)
+        taken = time.monotonic() - started
+        tally.note("no node, the time", None if taken < LONGEST_WAIT / 2 else f"it waited {taken:.1f} s")
         for client, target in zip(waits, asked):
             note_row(store, ("GET", target, None), client.next(), "in vain", tally)
             taken = time.monotonic() - started

@@ -46,6 +46,8 @@ PLACES_LEFT, LONG = 4, 20.0
 MOST_HEAD, HEAD_SECONDS = 2048, 1.0
 # The most nodes of a tree.
 NODES = 4096
+# How many clients are tried at once; of more slots it is seen that they are counted.
+MOST_CLIENTS = 100
 
 
 def tries(program: str, room: str) -> list[Try]:
@@ -112,10 +114,12 @@ def slots_of_each(program: str, tally: Tally) -> None:
 
 def slots_asked_for(program: str, tally: Tally) -> None:
     """With `--http-seats N` so many connections have a slot, which the metrics say too."""
-    for count in (1, 2, 100):
+    for count in (1, 2, 100, 1023, 1024):
         with Both(program, "--http-seats", str(count), "--busy") as server, ExitStack() as room:
             slots = metrics_at(server.http)['grove_connection_slots{protocol="http"}']
             tally.note(f"{count} slots", None if slots == count else f"there are {slots}")
+            if count > MOST_CLIENTS:
+                continue
             time.sleep(0.2)
             came = [room.enter_context(Client(server.http)).post(GET).status for _ in range(count)]
             tally.note(f"{count} connections", None if came == [200] * count else f"came {came}")
