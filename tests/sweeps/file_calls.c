@@ -1,7 +1,7 @@
 /* Preloaded before a program, reports its calls about files of its own, a line each, to the file that CALLS names:
    which one it opens, and how, how many bytes it writes there, what it brings to its device, and which name it gives to
    what. Before the call of the number in STOPPED_BEFORE, from 1, the program stops as if it were killed. That of the
-   number in FAILED_NUMBER fails. */
+   number in FAILED_NUMBER fails, by the error of the number in FAILED_ERROR, or else by EIO. */
 #define _GNU_SOURCE
 #include <errno.h>
 #include <fcntl.h>
@@ -26,13 +26,14 @@ __attribute__((constructor)) static void begin(void) {
 static int fails(const char *name, const char *about, const char *more) {
     char line[3 * PATH_MAX];
     const char *last = getenv("STOPPED_BEFORE"), *failed = getenv("FAILED_NUMBER");
+    const char *error = getenv("FAILED_ERROR");
     if (reports < 0) return 0;
     calls++;
     if (last && calls == atol(last)) _exit(99);
     int size = snprintf(line, sizeof line, "%s %s %s\n", name, about, more);
     if (syscall(SYS_write, reports, line, size) != size) abort();
     if (!failed || calls != atol(failed)) return 0;
-    errno = EIO;
+    errno = error ? atoi(error) : EIO;
     return 1;
 }
 

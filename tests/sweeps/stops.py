@@ -9,7 +9,7 @@ from functools import partial
 from pathlib import Path
 
 from sweeps.preloaded import library_of
-from sweeps.program import DEVICE, Ran, Tally, Try, because, run
+from sweeps.program import DEVICE, MEMORY, Ran, Tally, Try, because, run
 from sweeps.saving import DOCUMENT, OLD, SAVED, Responding, fresh, note_folder, save, sized
 
 TRIED = "runs of the client that saves, whose calls about files were counted"
@@ -126,8 +126,8 @@ def stopped(program: str, library: str, room: str, text: bytes, tally: Tally) ->
 
 
 def failed(program: str, library: str, room: str, text: bytes, tally: Tally) -> None:
-    """`device`, and the file is as it was, with nothing beside it; only if its folder alone can't be synced, it is the
-    new one."""
+    """`device`, or `memory` where the system lacks that, and the file is as it was, with nothing beside it; only if its
+    folder alone can't be synced, it is the new one."""
     saving = Saving(program, library, room, text)
     saving.run()
     names = [call[0] for call in saving.calls()]
@@ -137,4 +137,8 @@ def failed(program: str, library: str, room: str, text: bytes, tally: Tally) -> 
         tally.compare(f"call {number} fails", saving.run(FAILED_NUMBER=number), wanted)
         left = text if "rename" in names[: number - 1] else OLD
         note_folder(tally, f"the folder after call {number}", saving.file, left)
+        saving.file.write_bytes(OLD)
+        lacking = saving.run(FAILED_NUMBER=number, FAILED_ERROR=errno.ENOMEM)
+        tally.compare(f"call {number} lacks memory", lacking, MEMORY)
+        note_folder(tally, f"the folder after call {number} without memory", saving.file, left)
     tally.blame("the status", None if wanted.status == DEVICE.status else "it is another one")
