@@ -44,7 +44,7 @@ NO_RESPONSES = (
 # Within how many seconds that is refused: long before `save` gives up a server that sends nothing.
 SOON = 15.0
 # For how many seconds a server may say nothing, and how many times as fast they pass here.
-SILENCE, FASTER = 60.0, 60
+SILENCE, FASTER = 60.0, 20
 # How long a server pauses between two pieces, and before the first if it is slow.
 PAUSE, SLOW = 0.02, 3.0
 # The most bytes of a document, and of what stands before it.
