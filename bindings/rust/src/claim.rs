@@ -96,7 +96,7 @@ impl<'a> Claim<'a> {
     fn named(&self) -> Vec<u32> {
         let steps = self.steps.iter().filter_map(|step| step.node());
         let rows = self.rows.iter().flat_map(|rows| rows.iter());
-        let listed = self.list.nodes.iter().copied();
+        let listed = self.list.accesses().nodes.iter().copied();
         listed
             .chain(steps)
             .chain(rows.map(|row| row.node))

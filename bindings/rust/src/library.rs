@@ -304,7 +304,7 @@ impl Room {
         }
         Ok(Planned {
             cost: planned.cost,
-            steps: self.steps.iter().map(|step| step.read()).collect(),
+            steps: self.steps.into_iter().map(RawStep::read).collect(),
             rows: self.rows,
         })
     }

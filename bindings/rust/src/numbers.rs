@@ -1,7 +1,7 @@
 //! What crosses to the library in place of paths: the numbers of nodes and accesses.
 
 use crate::fault::Fault;
-use crate::target::Target;
+use crate::target::{MOST_ACCESSES, Target};
 
 /// A step of a plan by the number of its node, or of its access.
 #[derive(Clone, Copy, Debug, PartialEq, Eq, Hash)]
@@ -51,32 +51,40 @@ pub(crate) struct PartNode {
     pub(crate) weight: u32,
 }
 
-/// The nodes and the lengths of a list, each in an array of its own.
+/// The nodes and the lengths of a list, each in an array of its own. They need no memory.
 pub(crate) struct Arrays {
-    pub(crate) nodes: Vec<u32>,
-    pub(crate) lengths: Vec<u32>,
+    nodes: [u32; MOST_ACCESSES],
+    lengths: [u32; MOST_ACCESSES],
+    count: usize,
 }
 
 impl Arrays {
     pub(crate) fn of(list: &[Target]) -> Arrays {
-        Arrays {
-            nodes: list.iter().map(|it| it.node).collect(),
-            lengths: list.iter().map(|it| it.length).collect(),
+        let mut arrays = Arrays {
+            nodes: [0; MOST_ACCESSES],
+            lengths: [0; MOST_ACCESSES],
+            count: list.len(),
+        };
+        for (place, target) in list.iter().enumerate() {
+            arrays.nodes[place] = target.node;
+            arrays.lengths[place] = target.length;
         }
+        arrays
     }
 
     /// The same with other numbers for the nodes.
-    pub(crate) fn numbered(&self, number_of: impl FnMut(u32) -> u32) -> Arrays {
-        Arrays {
-            nodes: self.nodes.iter().copied().map(number_of).collect(),
-            lengths: self.lengths.clone(),
+    pub(crate) fn numbered(&self, number_of: impl Fn(u32) -> u32) -> Arrays {
+        let mut arrays = Arrays { ..*self };
+        for node in &mut arrays.nodes[..self.count] {
+            *node = number_of(*node);
         }
+        arrays
     }
 
     pub(crate) fn accesses(&self) -> Accesses<'_> {
         Accesses {
-            nodes: &self.nodes,
-            lengths: &self.lengths,
+            nodes: &self.nodes[..self.count],
+            lengths: &self.lengths[..self.count],
         }
     }
 }

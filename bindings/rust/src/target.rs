@@ -6,7 +6,7 @@ use crate::nodes::Nodes;
 use std::ops::Deref;
 
 /// As many accesses a list may have, and as many slots an access may take (docs/PROTOCOL.md).
-const MOST_ACCESSES: usize = 64;
+pub(crate) const MOST_ACCESSES: usize = 64;
 const MOST_LENGTH: u64 = 1_000;
 
 /// An access of a list: its node and its length.

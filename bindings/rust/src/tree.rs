@@ -105,7 +105,7 @@ impl Tree {
     /// [`Error::Refused`]: `limit` of more than 64 accesses, `no-path` or `bad-length` of one of them, and `too-deep`
     /// if one is more than 32 below the root. [`Error::NoMemory`].
     pub fn plan(&self, list: &[Access]) -> Result<Plan, Error> {
-        let key = self.kept.key(list);
+        let key = Kept::key(list);
         if let Some(plan) = self.kept.plan(key, list, &self.nodes) {
             return Ok(plan);
         }
@@ -185,7 +185,7 @@ impl Tree {
         match asked {
             Some(planned) => planned,
             None => {
-                let part = Part::of(&self.nodes, arrays.nodes.clone())?;
+                let part = Part::of(&self.nodes, arrays.accesses().nodes.to_vec())?;
                 let rows = part.rows(&self.weights, |_, number| number);
                 plan_part(&rows, arrays.numbered(|it| part.place(it)).accesses(), true)
             }
