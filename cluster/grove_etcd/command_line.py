@@ -139,7 +139,7 @@ def status_told(program: Callable[[], Any]) -> int:
         raise
     except KeyboardInterrupt:
         return 130
-    except Exception:  # an error of the program itself, or a value in etcd that hasn't its form
+    except Exception:  # an error of the program itself
         traceback.print_exc()
         return 3
 

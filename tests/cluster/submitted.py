@@ -250,10 +250,10 @@ def errors_are_a_line_and_a_status(cluster, grove):
 
 
 def fault_of_garbage(programs):
-    """A value in etcd that isn't in its form is an error with a traceback, and no refusal."""
+    """A value in etcd that hasn't its form is refused by name, in a line."""
     programs.cluster.members().write([putting(Keys("garbage").head(), "x")])
     ran = programs.ran("status", "--store", "garbage")
-    is_well = (ran.returncode, ran.stdout, ran.stderr[:9]) == (3, "", "Traceback")
+    is_well = (ran.returncode, ran.stdout, ran.stderr) == (1, "refused stray-head\n", "")
     return None if is_well else f"status {ran.returncode}, {ran.stdout}{ran.stderr}"
 
 
