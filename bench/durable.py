@@ -6,10 +6,11 @@ disk: Redis (`appendfsync always`), etcd (one member) and SQLite (a WAL, `synchr
                             [--folder FOLDER] [--program FILE]                                        (default: all)
 
 rates: one `add` a line, at a tree with so many nodes below its root, by one client, by sixteen, and by sixteen with up
-to 16 lines ahead; the same by `--sync second`, and with no --data. Redis gets an INCRBY for each, etcd a put over HTTP, and SQLite, which is
-called without a server, a row's update by threads, whose lines can't be ahead. The clients of the three servers are
-bench/serve_client.c. Each row has lines a second, the latency in the middle and at the 99th of 100; and how many times
-the lines a second of each other there are. By `--sync second` it is how many times those with no --data.
+to 16 lines ahead; the same by `--sync second`, and with no --data. Redis gets an INCRBY for each, etcd a put over HTTP,
+and SQLite, which is called without a server, a row's update by threads, whose lines can't be ahead. The clients of the
+three servers are bench/serve_client.c. Each row has lines a second, the latency in the middle and at the 99th of 100;
+and how many times the lines a second of each other there are. By `--sync second` it is how many times those with no
+--data.
 opening: how long it takes until a server listens, and `grove data` has printed the document, of a file with so many
 rounds, which is written here.
 pause: how long a line takes at which a new file takes the old one's place, of a tree with 4,096 nodes, beside other

@@ -16,7 +16,10 @@ from listening import Place
 READING = ("judge", "check", "plan", "draw", "run", "audit", "tree")
 SERVING = ("serve", "page")
 SAVING = "save"
-VALUED = ("--tree", "--port", "--bind", "--address", "--workers", "--idle", "--http", "--http-seats", "--host", "--log", "--sync")
+VALUED = (
+    *("--tree", "--port", "--bind", "--address", "--workers", "--idle"),
+    *("--http", "--http-seats", "--host", "--log", "--sync"),
+)
 FLAGS = (
     *("--quiet", "--explain", "--document", "--text", "--any-port", "--busy", "--verbose", "--hints"),
     *("--csv", "--parents"),

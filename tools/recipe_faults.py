@@ -1,4 +1,4 @@
-"""Whether the recipes of CONTRIBUTING.md name what is there: each name beside its file, in the crate of which it tells."""
+"""Whether the recipes of CONTRIBUTING.md name what is there: each name beside its file, in the crate that is told."""
 from __future__ import annotations
 
 import re

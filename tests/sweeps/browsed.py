@@ -1,5 +1,7 @@
-"""The page in Chromium, if that is installed: what it shows of a store, and what comes of clicks, of keys and of what is
-written into it. Without it only that the page has what is clicked here is looked at."""
+"""The page in Chromium, if that is installed: what it shows of a store, and what comes of clicks, keys and texts.
+
+Without it only that the page has what is clicked here is looked at.
+"""
 
 from __future__ import annotations
 

@@ -131,7 +131,8 @@ def in_svg(text: str, wanted: list[dict]) -> Iterator[str]:
     width, height = float(top.get("width")), float(top.get("height"))
     yield from (f"a bar is outside: {box}" for box in boxes if box[0] < 0 or box[2] > width)
     texts = [text_box(it) for it in top.iter(f"{SVG}text")]
-    yield from (f"a text is outside: {box}" for box in texts if not (0 <= box[0] and box[2] <= width and box[3] <= height))
+    inside = [it for it in texts if 0 <= it[0] and it[2] <= width and it[3] <= height]
+    yield from (f"a text is outside: {box}" for box in texts if box not in inside)
     yield from (f"texts overlap: {one} and {other}" for one, other in combinations(texts, 2) if overlap(one, other))
     for plan in plans:
         yield from misplaced(plan)

@@ -35,7 +35,7 @@ from sweeps.verbose import Telling
 
 TRIED = "servers that sync each second"
 SECOND = ("--sync", "second")
-# How long after its reply a line may still be lost, which is a second, and how much longer on a machine with other work.
+# How long after its reply a line may still be lost: a second, and how much longer on a machine with other work.
 LOST_AFTER, LATE = 1.0, 1.0
 # After how many seconds a server is killed, and how long a client waits between two lines.
 KILLED_AFTER, PAUSE = (0.3, 1.3, 2.2, 3.4), 0.005

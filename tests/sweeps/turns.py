@@ -194,9 +194,9 @@ def reply_in(line: bytes) -> int:
 
 
 def sent_together(program: str, library: str, tally: Tally) -> None:
-    """Behind many lines whose replies have 256 bytes comes a round that is held. By then replies went out 257 at a time:
-    those that fill 65,536 bytes, with the one for which there was no room. It is tried until the server has read all of
-    the lines at once."""
+    """Behind many lines whose replies have 256 bytes comes a round that is held. By then replies went out 257 at a
+    time: those that fill 65,536 bytes, with the one for which there was no room. It is tried until the server has read
+    all of the lines at once."""
     until_well(partial(sent_by_then, program, library, tally), "what went out", tally)
 
 

@@ -27,8 +27,8 @@ struct KeptPlan {
     plan: Plan,
 }
 
-/// A hash that is taken of eight bytes at a time. Who looks for lists that have the same one finds them: so what is kept
-/// by it is compared.
+/// A hash that is taken of eight bytes at a time. Whoever wants two lists of one hash finds them, so what is
+/// kept by it is compared.
 #[derive(Default)]
 struct Words(u64);
 
