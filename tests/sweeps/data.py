@@ -21,7 +21,7 @@ from typing import Callable
 
 from batches import shelves
 from exposition import samples_in
-from log_file import Standing, file_of
+from log_file import Standing, file_of, standings_in
 from server import NotListening, Server, Serving, connected, free_port, talk, talk_in_turn
 from store import LEAST, MOST, compact
 from web import BadResponse, Client, Response, post, response_of
@@ -56,7 +56,8 @@ NOTHING = Response(0, {}, b"")
 AHEAD, TURNS = 16, 20
 PLAN, REWEIGH = b'{"plan":[["get","/a"]]}\n', b'{"reweigh":null}\n'
 # Lines that are a round each, that are answered alone, and that can't be read, each between others.
-MIXED = [ADD, PLAN, ADD, b"{\n", GET, REWEIGH, ADD, b"\n", ADD, WEIGHTS, REWEIGH, ADD, b'{"get":"/a"}\n', PLAN, GET, ADD]
+MIXED = [ADD, PLAN, ADD, b"{\n", GET, REWEIGH, ADD, b"\n", ADD, WEIGHTS, REWEIGH, ADD, b'{"get":"/a"}\n', PLAN, GET]
+MIXED += [ADD]
 
 
 def tries(program: str, room: str) -> list[Try]:
@@ -84,6 +85,7 @@ def tries(program: str, room: str) -> list[Try]:
         Try("two servers of one file", partial(taken, program, room)),
         Try("what the file has, beside its server", partial(beside, program, room)),
         Try("a torn end", partial(torn, program, room)),
+        Try("a torn first round", partial(torn_first, program, room)),
         Try("a file that isn't one of ours", partial(not_ours, program, room)),
         Try("no folder and no room", partial(unwritable, program, room)),
         Try("no leave", partial(forbidden, own, room)),
@@ -378,6 +380,29 @@ def torn(program: str, room: str, tally: Tally) -> None:
             tally.note(f"{cut} bytes less, served", None if b'[[13]],"round":3' in came else f"{came!r}")
 
 
+def torn_first(program: str, room: str, tally: Tally) -> None:
+    """A file with no whole round, and a part of the first one behind the snapshot of a store that had counted seven, or
+    none: it has that store, and so many bytes are torn. A server goes on from there, and leaves a whole file."""
+    names = [(None, b""), (0, b"a")]
+    for rounds in (0, 7):
+        before, after = (Standing((5, 6), (7, 8 + more), (0, 9), rounds + more) for more in (0, 1))
+        snapshot, whole = (file_of(bytes(range(32)), names, kept) for kept in ([before], [before, after]))
+        for size in range(len(snapshot) + 1, len(whole)):
+            file, end = fresh(room), size - len(snapshot)
+            file.write_bytes(whole[:size])
+            where, wanted = f"{end} bytes of round {rounds + 1}", f"rounds {rounds}\nbytes {size}\ntorn {end}\n"
+            tally.compare(where, run(program, "data", "--check", str(file)), Ran(0, wanted.encode(), b""))
+            if end % FRAME != 1:
+                continue
+            with opened(program, file) as server:
+                came = server.talk(BATCH)
+            wanted = f'{{"places":[0],"replies":[[9]],"round":{rounds + 1}}}\n'
+            tally.note(f"{where}, served", None if came == wanted.encode() else f"came {came!r}")
+            data = file.read_bytes()
+            is_well = standings_in(data) == [before, after] and len(data) == len(whole)
+            tally.note(f"{where}, what is left", None if is_well else f"came {standings_in(data)}, {len(data)} bytes")
+
+
 def not_ours(program: str, room: str, tally: Tally) -> None:
     """Each with its reason or its refusal, and as it was."""
     whole = with_rounds(program, room).read_bytes()
@@ -390,6 +415,7 @@ def not_ours(program: str, room: str, tally: Tally) -> None:
         ("a head that is cut", whole[:43], ": it isn't a file of --data"),
         ("another version", whole[:8] + b"\x02" + whole[9:], ": it has version 2, and this grove reads version 1"),
         ("a head alone", whole[:44], ": what it has is no store"),
+        ("a torn snapshot", whole[: at - FRAME - 2 * 12 - 1], ": what it has is no store"),
         ("a damaged round", damaged, None),
     ):
         file = fresh(room)
