@@ -50,14 +50,15 @@ def uncounted(text):
 
 
 def asked_in(query):
-    """After which round and below which path a query asks for nodes, or `None` for one that asks nothing."""
+    """After which round and below which path a query asks for nodes, and whether it asks for hints; or `None` for one
+    that asks nothing."""
     pairs = parse_qsl(query, keep_blank_values=True, encoding="utf-8", errors="replace")
-    after, below = ([value for name, value in pairs if name == wanted] for wanted in ("after", "below"))
-    if len(after) > 1 or len(below) > 1:
+    after, below, hints = ([value for name, value in pairs if name == wanted] for wanted in ("after", "below", "hints"))
+    if max(map(len, (after, below, hints))) > 1:
         return None
     if after and not (re.fullmatch("[0-9]+", after[0]) and int(after[0]) < 2**64):
         return None
-    return (int(after[0]) if after else None), (below[0] if below else "/")
+    return (int(after[0]) if after else None), (below[0] if below else "/"), bool(hints)
 
 
 def document_text(store):
@@ -131,6 +132,11 @@ def fault_of_nodes(store, query, response, method):
     if asked and asked[1] in store.tree.paths:
         return fault_of_look(response, nodes_text(store, below=asked[1]), JSON, method)
     wanted = b'{"error":"no-path"}\n' if asked else b'{"error":"query"}\n'
+    if asked and asked[2] and method != "HEAD":
+        plain, hint = split_reply(response.body.removesuffix(b"\n"))
+        if not HINT.fullmatch(hint):
+            return f"a hint is missing: {response}"
+        response = response._replace(body=plain + b"\n")
     return fault_of_plain(response, 400, {b"" if method == "HEAD" else wanted})
 
 

@@ -12,6 +12,7 @@ import time
 from concurrent.futures import ThreadPoolExecutor
 from contextlib import ExitStack
 from functools import partial
+from pathlib import Path
 from random import Random
 from urllib.parse import quote
 
@@ -26,11 +27,13 @@ from web import BadResponse, Client, chunked, post, request, responses_in
 from sweeps.browser import Browser
 from sweeps.crowds import SLOTS, is_silent
 from sweeps.documents import seeded
+from sweeps.doors import DOORS, Door
 from sweeps.hostile_lines import note_memory, taken
 from sweeps.program import Tally, Try
 from sweeps.readable import note_readable
 from sweeps.ten_lines import ADD, GET, TEXT, TREE, WEIGHTS
 
+TOP = Path(__file__).parents[2]
 TRIED = "requests, most of them hostile"
 SEEDED = 8
 # How many parts have hostile requests, and how many connections of them each; after so many comes an honest client.
@@ -104,6 +107,11 @@ QUERIES += ["after=18446744073709551616", "after=99999999999999999999999", "afte
 QUERIES += ["below=/a&below=/a", "below=/a&below=/c", "after=x&below=/c", "after=0&below=/c&below=/c"]
 QUERIES += ["below=", "below", "below=a", "below=/a/", "below=//", "below=/c", "below=/A", "below=%ff", "below=/%61%"]
 QUERIES += ["after=18446744073709551615&below=/c", "after=0&below=/c"]
+QUERIES += ["hints", "below=/a&hints=1", "below=/c&hints", "hints=x&after=0&below=c", "below=/c&h%69nts="]
+QUERIES += ["below=/c&Hints", "below=/c&hints&hints", "after=x&below=/c&hints", "hints=0&below="]
+# What a query asks for hints by, before a path and behind it, and what it doesn't.
+ASKING = ("below={}&hints=1", "hints&below={}", "after=0&below={}&hints=", "hints=0&below={}&x")
+NOT_ASKING = ("below={}", "below={}&Hints=1", "below={}&hint=1&x=hints", "after=18446744073709551615&below={}")
 ROWS = [
     ("GET", "/", None),
     ("HEAD", "/", None),
@@ -180,6 +188,7 @@ def tries(program: str, room: str) -> list[Try]:
         Try("when the page asks for a reweighing", partial(when_it_reweighs, program)),
         Try("what can be read and reached", partial(read_and_reached, program)),
         Try("nodes below each", partial(below_each, program)),
+        *(Try(f"{door.name}, hints for paths", partial(hints_for_paths, program, door)) for door in DOORS[1:]),
         Try("waiting for a round", partial(waiting, program)),
         Try("waiting in vain", partial(waiting_in_vain, program)),
         Try("requests behind a look that waits", partial(behind_a_wait, program)),
@@ -459,6 +468,34 @@ def below_each(program: str, tally: Tally) -> None:
             for path in store.tree.paths:
                 for told in (path, quote(path, safe=""), f"{path}a", f"{path}/", path[1:], path.upper()):
                     note_rows(client, store, [("GET", f"/nodes?below={told}", None)], "below", tally)
+
+
+def hints_for_paths(program: str, door: Door, tally: Tally) -> None:
+    """A path that no node has is refused with a hint if the query asks for one, or the server has `--hints`, and else
+    to the byte as ever. It is that of line_hints.json for a line `plan` that has the path alone, and here one that
+    names a node."""
+    wbe = {"/wbe": 'below: no node has the path "/wbe"; "/" has no child "wbe", but "web", which resembles it'}
+    for name, hints in (("two-leaves", paths_in_line_hints()), ("settings", wbe)):
+        document = (TOP / f"examples/{name}.json").read_bytes()
+        for words in ((), ("--hints",)):
+            with door.serving(program, document, words) as server, Client(server.port) as client:
+                for path, hint in hints.items():
+                    for form in (*ASKING, *NOT_ASKING):
+                        is_hinted = words or form in ASKING
+                        wanted = {"error": "no-path", "hint": hint} if is_hinted else {"error": "no-path"}
+                        response = client.get("/nodes?" + form.format(quote(path, safe="")))
+                        fault = fault_of_plain(response, 400, {compact(wanted) + b"\n"})
+                        tally.note(f"{words} {form} {path!r}", fault)
+
+
+def paths_in_line_hints() -> dict[str, str]:
+    """The hint of each path that a line `plan` of line_hints.json has alone, as it is for a path beside `below`."""
+    found = {}
+    for row in json.loads((TOP / "tests/line_hints.json").read_text()):
+        path = re.fullmatch(r'\{"plan":\[\["get",("[^"]*")\]\]\}', row["line"])
+        if path and row["error"] == "no-path":
+            found[json.loads(path[1])] = row["hint"].removeprefix("hint: ").replace("plan 0", "below")
+    return found
 
 
 def waiting(program: str, tally: Tally) -> None:

@@ -20,6 +20,8 @@ from sweeps.ten_lines import ADD, GET, TEXT, TREE, WEIGHTS
 TRIED = "growths of a server of pages refused, each alone, and the requests asked after it"
 # What shows which lines had an effect: the records and weights, and how many rounds were run.
 LOOKS = [LOOK, ("POST", "/", b'{"batch":[]}')]
+# A refusal that is as the other one where there is no memory for its hint.
+HINTED, HINTLESS = ("GET", "/nodes?below=/c&hints", None), ("GET", "/nodes?below=/c", None)
 ROWS = [
     LOOK,
     ("GET", "/", None),
@@ -31,6 +33,7 @@ ROWS = [
     ("GET", "/none", None),
     # A round has been done, whichever allocation fails, so this waits for none.
     ("GET", "/nodes?after=0&below=%2Fa", None),
+    HINTED,
     ("POST", "/", b'{"reweigh":null}\n' + ADD),
     ("DELETE", "/", None),
 ]
@@ -57,6 +60,8 @@ def ask_all(program: str, how: dict, where: str, tally: Tally) -> None:
                     if store is None:
                         tally.blame(where, f"what is left after {row} and {response} isn't what its lines leave")
                         return
+                elif row == HINTED and fault_of_response(store, HINTLESS, response) is None:
+                    lost += 1
                 else:
                     fault = fault_of_response(store, row, response)
                     tally.note(where, fault and f"{row[0]} {row[1]} {row[2]!r}: {fault}")

@@ -4,6 +4,7 @@
 pub use asked::Asked;
 pub use hinting::{awaited, hint, oversight};
 pub use kinds::hint_of_no_table;
+pub use paths::hint_of_path;
 pub use session::hint_of_request;
 
 mod asked;

@@ -2,17 +2,41 @@
 ghost use Rattle.std.specs.Prelude.{◌<◌, length};
 
 use crate::forms::text_of;
+use crate::hinting::Refused;
 use crate::likeness::resembles;
-use crate::places::Subject;
+use crate::places::{Subject, Whole};
 use crate::sayings::Said;
-use crate::shown::{Near, Quoted};
+use crate::shown::{Near, Quoted, hint_that};
 use crate::trees::{child_named, is_child, name_of};
+use grove_base::Hint;
 use grove_tree::{NoMemory, Node, Tree};
-use grove_wire::Place;
+use grove_wire::{Fault, Part, Place, WireFault};
 use serde_json::Value;
 use std::alloc::{AllocError, Global};
 use std::fmt;
 use std::fmt::{Formatter, Write};
+
+/// What a person is told of the path beside `below` in a query, which no node of the tree has.
+pub fn hint_of_path(alloc: Global, tree: &Tree, path: &str) -> Result<Hint, NoMemory> {
+    let value = Value::String(String::from_str(alloc, path)?);
+    let subject = Subject {
+        alloc,
+        whole: Whole::Below,
+        value: &value,
+        tree: Some(tree),
+    };
+    let (part, at, item) = (Part::Whole, None, None);
+    let fault = Fault::Wire(WireFault::NoPath(Place { part, at, item }));
+    let repeated = None;
+    hint_that(
+        alloc,
+        &Refused {
+            subject,
+            fault,
+            repeated,
+        },
+    )
+}
 
 impl<'v> Subject<'v> {
     /// Why the path at the place is that of no node.
@@ -94,9 +118,10 @@ impl<'v> Subject<'v> {
     }
 }
 
-/// The path in an access, a step or a flow row, as far as there is one.
+/// The path that stands alone, or in an access, a step or a flow row, as far as there is one.
 pub(crate) fn path_in(value: Option<&Value>) -> &str {
     match value {
+        Some(Value::String(path)) => path,
         Some(Value::Array(items)) => text_of(items.get(1)),
         Some(row) => text_of(row.get("node")),
         None => "",

@@ -19,6 +19,8 @@ pub(crate) enum Whole {
     List,
     /// The lists of a request `batch`.
     Lists,
+    /// The path that a query has beside `below`.
+    Below,
 }
 
 impl Whole {
@@ -52,6 +54,7 @@ impl Display for Spot {
     fn fmt<W: Write>(&self, f: &mut Formatter<W>) -> fmt::Result {
         let place = self.place;
         let word = match (self.whole, place.part) {
+            (Whole::Below, _) => "below",
             (Whole::Check, Part::Whole) => "check",
             (_, Part::Whole) => "the document",
             (Whole::List, _) => "plan",

@@ -1,6 +1,7 @@
 -- What is replied to a request: a page, the replies to lines, or what a store holds.
 use Rattle.std.specs.Prelude.{◌≡◌, ℕ, ◌==◌, ◌&&◌, ◌||◌, ◌⊎◌, nat_lt, Bool, true, false, not, count_by, List, [], ◌∷◌}
-use Rattle.std.specs.Prelude.{◌++◌, length, Option, Some, None, unwrap_or, Result, Ok, Err, codes, if◌then◌else◌, All}
+use Rattle.std.specs.Prelude.{◌++◌, length, Option, Some, None, is_some, unwrap_or, Result, Ok, Err, codes}
+use Rattle.std.specs.Prelude.{if◌then◌else◌, All}
 use Rattle.http.specs.declared.request.Request.{Request}
 use Rattle.http.specs.Request.{head_of, body_of}
 use Rattle.http_uri.specs.Uri.{uri_path, uri_query}
@@ -13,6 +14,7 @@ use Rattle.grove_session.specs.declared.session_fault.SessionFault.{SessionFault
 use Rattle.grove_session.specs.declared.session_fault.SessionFault.TheVariants.{Read, Write, Memory, Turns, Foreign, Unkept}
 use Rattle.grove_session.specs.Sessions.{Lawful, SessionEnds}
 use Rattle.grove_wire.specs.Documents.{document_text}
+use Rattle.grove_wire.specs.Replies.{error_text}
 use Rattle.grove_store.specs.StoreStates.{StoreState}
 use Rattle.grove_store.specs.Refusals.{is_refusal}
 use Rattle.grove_desk.specs.declared.told.Told.{Told}
@@ -21,7 +23,7 @@ use Rattle.grove_desk.specs.Desks.{is_accepted}
 use Rattle.grove_page.specs.declared.route.Route.{Route}
 use Rattle.grove_page.specs.declared.route.Route.TheVariants.{Page, Lines, Document, Nodes, Health, Metrics}
 use Rattle.grove_page.specs.declared.route.Route.TheVariants.{OnlyLook, LookOrSend, ForeignPage, Nowhere}
-use Rattle.grove_page.specs.Hints.{caller, CallerState, IsCallerReply}
+use Rattle.grove_page.specs.Hints.{caller, CallerState, IsCallerReply, MayHint}
 use Rattle.grove_page.specs.declared.nodes.Part.{Part}
 use Rattle.grove_page.specs.Hosts.{IsForHere}
 use Rattle.grove_page.specs.Queries.{NodesQuery, IsRead}
@@ -139,16 +141,22 @@ TellsMetrics r = ((text : List ℕ)
 
 -- ---- nodes
 
+-- there is no such node, which is told with a hint only if hints are asked for
+abbrev pub TellsNoPath : Bool → Response → Type 0
+TellsNoPath hints r =
+    (line : List ℕ) × MayHint hints (error_text (codes "no-path")) line × IsResponse 400 json (line ++ 10 ∷ []) r
+
 -- the reply tells of the part of a store, or that there is no such node
-abbrev pub TellsPart : StoreState → Option Part → Response → Type 0
-TellsPart store None r = IsResponse 400 json (error_line (codes "no-path")) r
-TellsPart store (Some part) r =
+abbrev pub TellsPart : Bool → StoreState → Option Part → Response → Type 0
+TellsPart hints store None r = TellsNoPath hints r
+TellsPart hints store (Some part) r =
     IsResponse 200 json (line_of_nodes store.rows store.records store.waits store.rounds part) r
 
 -- of such a store what the query asks; or that it asks nothing; or none
-abbrev pub AnswersQuery : List ℕ → StoreState → Response → Type 0
-AnswersQuery query opening r = ((asked : NodesQuery) × IsRead query asked
-    × ((store : StoreState) × Led opening store × TellsPart store (part_of store.rows asked.below) r))
+abbrev pub AnswersQuery : Bool → List ℕ → StoreState → Response → Type 0
+AnswersQuery hints query opening r = ((asked : NodesQuery) × IsRead query asked
+    × ((store : StoreState) × Led opening store
+    × TellsPart (hints || is_some asked.hints) store (part_of store.rows asked.below) r))
     ⊎ ((((asked : NodesQuery) → IsRead query asked → ⊥) × IsResponse 400 json (error_line (codes "query")) r)
     ⊎ TellsNone r)
 
@@ -164,7 +172,7 @@ IsReplyTo state query body Page r = IsResponse 200 html state.page r
 IsReplyTo state query body Lines r =
     TakesBody (nat_lt 65536 (length body)) (caller (state.hints || asks_for_hints query) state.opening) body r
 IsReplyTo state query body Document r = TellsDocument state.opening r
-IsReplyTo state query body Nodes r = AnswersQuery (unwrap_or query []) state.opening r
+IsReplyTo state query body Nodes r = AnswersQuery state.hints (unwrap_or query []) state.opening r
 IsReplyTo state query body Health r = TellsHealth r
 IsReplyTo state query body Metrics r = TellsMetrics r
 IsReplyTo state query body OnlyLook r =

@@ -4,10 +4,12 @@ use Rattle.std.specs.Str.Lossy.{utf8_lossy}
 use Rattle.std.specs.Str.Parse.{IsNumeral, digits_value}
 use Rattle.form_urlencoded.specs.Form.{raw_pairs, decode}
 
--- a round that a later one is waited for, and the path of the node that is told of with those below it
+-- a round that a later one is waited for, the path of the node that is told of with those below it, and any word, by
+-- which hints are asked for
 pub record NodesQuery : Type 0 where
   pub after : Option ℕ
   pub below : Option (List ℕ)
+  pub hints : Option (List ℕ)
 
 -- the values beside this name, each decoded as in forms
 abbrev pub values_beside : List ℕ → List (List ℕ × List ℕ) → List (List ℕ)
@@ -30,3 +32,4 @@ ReadsAs means _ _ = ⊥
 pub record IsRead (query : List ℕ) (asked : NodesQuery) : Type 0 where
   pub after : ReadsAs IsRound (values_beside (codes "after") (raw_pairs query)) asked.after
   pub below : ReadsAs (λ text path. path ≡ text) (values_beside (codes "below") (raw_pairs query)) asked.below
+  pub hints : ReadsAs (λ text word. word ≡ text) (values_beside (codes "hints") (raw_pairs query)) asked.hints

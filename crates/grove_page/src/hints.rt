@@ -6,7 +6,7 @@ ghost use Rattle.grove_wire.specs.Replies.{error_text};
 ghost use Rattle.grove_page.specs.Hints.{hinted_data, IsHinted};
 
 use grove_base::{Hint, NoMemory};
-use grove_hint::hint_of_request;
+use grove_hint::{hint_of_path, hint_of_request};
 use grove_store::Refusal;
 use grove_tree::Tree;
 use serde_json::{Value, json};
@@ -30,6 +30,14 @@ pub fn hint_of_refusal(
         Refusal::Fault(fault) => hint_of_request(alloc, tree, line, *fault),
         Refusal::Rounds => Hint::new(alloc, NO_MORE_ROUNDS),
     }
+}
+
+/// The line that refuses the path beside `below`, with a hint.
+pub(crate) fn hinted_no_path(alloc: Global, tree: &Tree, path: &str) -> Result<Vec<u8>, NoMemory>
+    ensures { IfOk result (λ line. IsHinted (error_text (codes "no-path")) line.items) }
+{
+    let hint = hint_of_path(alloc, tree, path)?;
+    hinted_reply(alloc, "no-path", &hint)
 }
 
 /// The reply that refuses a line by this name, with a hint: `{"error":"shape","hint":"the line is empty"}`.

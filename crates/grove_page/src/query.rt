@@ -15,6 +15,8 @@ pub(crate) struct NodesQuery {
     pub after: Option<u64>,
     /// The path of the node that is told of, with those below it.
     pub below: Option<String>,
+    /// Any word, by which hints are asked for.
+    pub hints: Option<String>,
 }
 
 impl Model for NodesQuery {
@@ -24,7 +26,11 @@ impl Model for NodesQuery {
 
     ghost Value = { NodesQuery };
 
-    ghost view = { λ query. record { after = query.after; below = option_map string_bytes query.below } };
+    ghost view = { λ query. record {
+      after = query.after;
+      below = option_map string_bytes query.below;
+      hints = option_map string_bytes query.hints;
+    } };
 }
 
 /// Why a query isn't read.
@@ -55,6 +61,7 @@ pub(crate) fn read_query(alloc: Global, query: &[u8]) -> Result<NodesQuery, Quer
     Ok(NodesQuery {
         after: read_round(alloc, query)?,
         below: value_of(alloc, query, "below")?,
+        hints: value_of(alloc, query, "hints")?,
     })
 }
 

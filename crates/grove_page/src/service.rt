@@ -1,10 +1,11 @@
-ghost use Rattle.std.specs.Prelude.{◌≡◌, ◌==◌, ◌++◌, ◌⊎◌, ℕ, nat_lt, length, count_by, OnOk, OnErr, IfOk, codes};
+ghost use Rattle.std.specs.Prelude.{◌≡◌, ◌==◌, ◌++◌, ◌⊎◌, ◌||◌, ℕ, nat_lt, length, count_by, OnOk, OnErr, IfOk};
+ghost use Rattle.std.specs.Prelude.{codes, is_some};
 ghost use Rattle.http.specs.Request.{head_of, body_of};
 ghost use Rattle.http_uri.specs.Uri.{uri_path, uri_query};
 ghost use Rattle.http_server.specs.Response.{IsBlank, IsResponse};
 ghost use Rattle.grove_page.specs.Pages.{json, error_line, has_many_lines, is_refused};
 ghost use Rattle.grove_page.specs.Pages.{IsReplyTo, AnswersBody, TakesLines, TakesBody, TellsDocument, TellsSession};
-ghost use Rattle.grove_page.specs.Pages.{AnswersQuery, TellsPart, TellsNone, TellsMetrics, TellsHealth};
+ghost use Rattle.grove_page.specs.Pages.{AnswersQuery, TellsPart, TellsNoPath, TellsNone, TellsMetrics, TellsHealth};
 ghost use Rattle.grove_page.specs.Routes.{route_of};
 ghost use Rattle.grove_page.specs.NodeLines.{part_of};
 ghost use Rattle.grove_store.specs.StoreStates.{StoreState};
@@ -12,6 +13,7 @@ ghost use Rattle.grove_desk.specs.Desks.{TellsLater};
 ghost use Rattle.grove_desk.specs.Histories.{Led};
 ghost use Rattle.grove_page.specs.Hints.{caller};
 
+use crate::hints::hinted_no_path;
 use crate::hosts::is_for_here;
 use crate::lines::{document_line, nodes_line};
 use crate::nodes::part_for;
@@ -23,7 +25,7 @@ use bytes::{BufMut, Bytes};
 use grove_desk::{Awaited, DeskFault};
 use grove_session::SessionFault;
 use grove_store::Store;
-use grove_tree::NoMemory;
+use grove_tree::{NoMemory, Tree};
 use http::{HeaderValue, Request, StatusCode, header};
 use http_server::{Response, Service};
 use std::alloc::{AllocError, AllocGlobal};
@@ -204,7 +206,7 @@ impl<'a, R: AllocGlobal, F: Front<R>> PageService<'a, R, F> {
     /// What the query asks of the nodes, once the round is done that it waits for.
     fn tell_nodes(&self, query: &str, response: &mut Response) -> Result<(), AllocError>
         requires { IsBlank response.old }
-        ensures { OnOk result (AnswersQuery query.now self.now.opening response.new) }
+        ensures { OnOk result (AnswersQuery self.now.hints query.now self.now.opening response.new) }
     {
         match read_query(self.rt.alloc(), query.as_bytes()) {
             Ok(asked) => self.tell_asked(&asked, response),
@@ -217,7 +219,8 @@ impl<'a, R: AllocGlobal, F: Front<R>> PageService<'a, R, F> {
     fn tell_asked(&self, asked: &NodesQuery, response: &mut Response) -> Result<(), AllocError>
         requires { IsBlank response.old }
         ensures { OnOk result (((store : StoreState) × Led self.now.opening store
-            × TellsPart store (part_of store.rows asked.now.below) response.new) ⊎ TellsNone response.new) }
+            × TellsPart (self.now.hints || is_some asked.now.hints) store (part_of store.rows asked.now.below)
+            response.new) ⊎ TellsNone response.new) }
     {
         match self.store_for(asked) {
             Ok(store) => self.tell_part(&store, asked, response),
@@ -262,16 +265,35 @@ impl<'a, R: AllocGlobal, F: Front<R>> PageService<'a, R, F> {
         response: &mut Response,
     ) -> Result<(), AllocError>
         requires { IsBlank response.old }
-        ensures { OnOk result (TellsPart store.now (part_of store.now.rows asked.now.below) response.new
-            ⊎ TellsNone response.new) }
+        ensures { OnOk result (TellsPart (self.now.hints || is_some asked.now.hints) store.now
+            (part_of store.now.rows asked.now.below) response.new ⊎ TellsNone response.new) }
     {
         match part_for(store.tree(), asked) {
             Some(part) => {
                 let line = nodes_line(self.rt.alloc(), store, self.paths, &part);
                 fill_line(response, line)
             }
-            None => fill_json(response, StatusCode::BAD_REQUEST, NO_PATH),
+            None => self.tell_no_path(store.tree(), asked, response),
         }
+    }
+
+    /// That no node of the tree has the path, with a hint if that is asked for and there is memory for it.
+    #[tactic(auto, using(crate::proofs::Told::plain_no_path, crate::proofs::Told::hinted_no_path))]
+    fn tell_no_path(
+        &self,
+        tree: &Tree,
+        asked: &NodesQuery,
+        response: &mut Response,
+    ) -> Result<(), AllocError>
+        requires { IsBlank response.old }
+        ensures { OnOk result (TellsNoPath (self.now.hints || is_some asked.now.hints) response.new) }
+    {
+        let path = asked.below.as_deref().unwrap_or("");
+        let hints = self.hints || asked.hints.is_some();
+        if hints && let Ok(line) = hinted_no_path(self.rt.alloc(), tree, path) {
+            return fill_broken(response, StatusCode::BAD_REQUEST, &line, b"\n");
+        }
+        fill_json(response, StatusCode::BAD_REQUEST, NO_PATH)
     }
 
     /// Whether lines are answered.
@@ -367,16 +389,16 @@ fn fill_replies(response: &mut Response, visited: Visited, replies: &[u8]) -> Re
     }
 }
 
-/// The replies to the first lines, and a line that says why there are no others.
+/// Replies, as those to the first lines, and what comes behind them, as why there are no others.
 fn fill_broken(
     response: &mut Response,
     status: StatusCode,
     replies: &[u8],
-    why: &[u8],
+    behind: &[u8],
 ) -> Result<(), AllocError>
     requires { IsBlank response.old }
-    ensures { OnOk result (IsResponse status json (replies.now ++ why.now) response.new) }
+    ensures { OnOk result (IsResponse status json (replies.now ++ behind.now) response.new) }
 {
     fill_json(response, status, replies)?;
-    response.body.put_slice(why)
+    response.body.put_slice(behind)
 }
