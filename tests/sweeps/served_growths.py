@@ -104,15 +104,15 @@ def is_hintless(want: str, came: str) -> bool:
 
 
 def tell_of_requests(program: str, how: dict, where: str, tally: Tally) -> None:
-    """Over HTTP a connection that has its response ends as others do. One that has none may have ended for want of
-    memory, and for nothing else."""
+    """Over HTTP a connection that has its response ends as others do. One that has none has ended for want of memory,
+    or for want of a thread, and is logged so."""
     try:
         with Telling(program, door=DOORS[1], **how) as server:
             with Client(server.port) as client:
                 response = posted(client, b"".join(LINES))
             told = end_told(server)
-            forms = [ended_by("info", "requests-ended")]
-            forms += [] if response else [ended_by("error", "memory"), threadless_line(1)]
+            forms = [ended_by("error", "memory"), threadless_line(1)]
+            forms = [ended_by("info", "requests-ended")] if response else forms
             is_told = any(re.fullmatch(form, told) for form in forms)
             tally.note(where, None if is_told else f"beside {response} came {told!r}")
     except NotListening as not_listening:

@@ -1,4 +1,4 @@
-ghost use Rattle.std.specs.Prelude.{◌≡◌, map, string_bytes, OnOk};
+ghost use Rattle.std.specs.Prelude.{◌≡◌, map, string_bytes, IsOk, OnOk};
 ghost use Rattle.std.specs.Io.KnownBytes.{Appends, Consumes};
 ghost use Rattle.http_server.specs.declared.state.Config.{Config};
 ghost use Rattle.http_server.specs.History.{History, IsDone};
@@ -6,11 +6,11 @@ ghost use Rattle.grove_page.specs.Pages.{IsPageHistory};
 
 use crate::service::PageService;
 use crate::{Front, Paths};
-use http_server::{Config, Connection, serve};
+use http_server::{Config, Connection, State, serve};
 use std::alloc::AllocGlobal;
 use std::hash::RandomState;
 use std::io;
-use std::io::{Read, Write};
+use std::io::{ErrorKind, Read, Write};
 
 /// So many bytes may a body have.
 pub const MOST_BODY: usize = 4 * 1024 * 1024;
@@ -27,7 +27,8 @@ pub struct Site<'a> {
     pub paths: Option<&'a Paths>,
 }
 
-/// Serves a connection: reads its requests, and writes what is replied to them, until it is done.
+/// Serves a connection: reads its requests, and writes what is replied to them, until it is done. One that is given up
+/// for want of memory ends with that error.
 pub fn serve_page<R: AllocGlobal, F: Front<R>, I: Read, O: Write>(
     rt: &R,
     front: &F,
@@ -65,5 +66,16 @@ pub fn serve_page<R: AllocGlobal, F: Front<R>, I: Read, O: Write>(
         hints,
         paths,
     };
-    serve(&mut connection, &mut service, reader, writer)
+    let ended = serve(&mut connection, &mut service, reader, writer);
+    end_in(connection.state(), ended)
+}
+
+/// The end of a connection in this state. One that was aborted had no memory to go on.
+fn end_in(state: State, ended: io::Result<()>) -> io::Result<()>
+    ensures { OnOk result (IsOk ended) }
+{
+    match state {
+        State::Aborted if ended.is_ok() => Err(ErrorKind::OutOfMemory.into()),
+        _ => ended,
+    }
 }
