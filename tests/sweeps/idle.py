@@ -53,12 +53,18 @@ NODES, LEAST_UNTAKEN = 500, 8_000_000
 WITHOUT_SLOT = 1.3
 # How much room the client's end of such a connection has.
 ROOM = 4096
+# A time to idle of which twice is told from once on a machine with other work, and how much later the end may come.
+TWICE_TOLD, LATER, SOONER = 2, 1.0, 0.3
+# After which part of it a client takes so many bytes, which are more than the system keeps for a client that takes
+# nothing, and how much room its end has for them.
+TAKES_AFTER, TAKES, TAKES_ROOM = 0.6, 1_000_000, 65_536
 
 
 def tries(program: str, room: str) -> list[Try]:
     both = {
         "clients that say nothing": silent,
         "clients that take no replies": taking_nothing,
+        "how long nothing may be taken": taking_late,
         "clients that say nothing after a line": silent_later,
         "clients that go on": honest,
         "clients that begin a line behind each": overlapping,
@@ -174,6 +180,51 @@ def taking_nothing(program: str, door: Door, tally: Tally) -> None:
             tally.note(f"client {number}", None if came is not None and came < LEAST_UNTAKEN else fault)
 
 
+def taking_late(program: str, door: Door, tally: Tally) -> None:
+    """A client that takes nothing of its replies, and one that takes some of them late, is ended so long after the last
+    byte that was taken. It is tried until a machine with other work has ended each in time."""
+    with serving(program, door, ("--idle", str(TWICE_TOLD)), large_tree()) as server:
+        for takes in (0, TAKES):
+            until_well(partial(end_of_taker, server, door, takes, tally), f"who takes {takes} bytes", tally, 5)
+
+
+def end_of_taker(server: Serving, door: Door, takes: int, tally: Tally) -> str | None:
+    """A client asks for megabytes and takes so many bytes, late, if any. When its connection ends, if that is late."""
+    with narrow(server.port, TAKES_ROOM if takes else ROOM) as client:
+        client.sendall(UNTAKEN[door.protocol][0])
+        if takes:
+            time.sleep(TAKES_AFTER * TWICE_TOLD)
+            with client.makefile("rb") as stream:
+                came = len(stream.read(takes))
+            tally.note("what is taken", None if came == takes else f"it ended after {came} bytes")
+        least, most = untaken_times(server.port, client.getsockname()[1])
+    tally.note(f"who takes {takes} bytes", None if most > TWICE_TOLD - SOONER else f"it ended after {most:.2f} s")
+    return f"it has its slot after {least:.2f} s" if least > TWICE_TOLD + LATER else None
+
+
+def untaken_times(port: int, other: int) -> tuple[float, float]:
+    """For how long a connection stays after the last byte that the system took of it, at least and at most, by when it
+    was looked at."""
+    queued, (before, since, still) = queued_at(port, other), [time.monotonic()] * 3
+    ends, looked = still + LONGEST, still
+    while queued and looked < ends:
+        time.sleep(0.01)
+        was, queued, still = queued, queued_at(port, other), looked
+        looked = time.monotonic()
+        if queued and queued != was:
+            before, since = still, looked
+    return still - since, looked - before
+
+
+def queued_at(port: int, other: int) -> str:
+    """What the system has of the bytes at a server's end of a connection; nothing once that is closed."""
+    for line in Path("/proc/net/tcp").read_text().splitlines()[1:]:
+        _, here, there, state, queued = line.split()[:5]
+        if (here[-4:], there[-4:], state) == (f"{port:04X}", f"{other:04X}", "01"):
+            return queued
+    return ""
+
+
 def until(is_so: Callable[[], bool]) -> None:
     """Waits until it is so, or for too long."""
     ends = time.monotonic() + LONGEST
@@ -198,10 +249,10 @@ def large_tree() -> bytes:
     return json.dumps({"nodes": rows}).encode()
 
 
-def narrow(port: int) -> socket.socket:
+def narrow(port: int, room: int = ROOM) -> socket.socket:
     """A connection whose ends keep little for each other."""
     client = socket.socket()
-    client.setsockopt(socket.SOL_SOCKET, socket.SO_RCVBUF, ROOM)
+    client.setsockopt(socket.SOL_SOCKET, socket.SO_RCVBUF, room)
     client.setsockopt(socket.IPPROTO_TCP, socket.TCP_MAXSEG, 1000)
     client.settimeout(LONGEST)
     client.connect((HOST, port))

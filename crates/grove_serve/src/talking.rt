@@ -7,7 +7,7 @@ use crate::service::Talk;
 use crate::slots::Slots;
 use crate::streams::Listed;
 use crate::timed_stream::{Awaited, TimedStream};
-use crate::timed_writer::TimedWriter;
+use crate::timed_writer::{LONGEST_TRY, TimedWriter};
 use crate::watching::{ServedDesk, session_at};
 use grove_base::NoMemory;
 use grove_desk::{Desk, Opening};
@@ -17,7 +17,7 @@ use grove_session::{ReaderSource, SessionFault, WriterSink};
 use grove_store::Keeper;
 use std::cell::Cell;
 use std::hash::RandomState;
-use std::io::{self, Read};
+use std::io::{self, Read, Write};
 use std::net::TcpStream;
 use std::time::Duration;
 
@@ -145,14 +145,16 @@ fn answer_in_time<'a, B: Opening, K: Keeper + Drop, R: Host>(
     seconds: u32,
 ) -> Ending {
     let longest = Duration::from_secs(u64::from(seconds));
-    if stream.set_write_timeout(Some(longest)).is_err() {
+    let a_try = Duration::from_millis(LONGEST_TRY);
+    if stream.set_write_timeout(Some(a_try)).is_err() {
         return Ending::Untimed;
     }
     let is_late = Cell::new(false);
     let reader = guest.reader(stream);
     let timed = TimedStream::new(rt, reader, Awaited::Line, longest, &is_late);
     let mut source = ReaderSource::new(timed);
-    let mut sink = WriterSink::new(TimedWriter::new(guest.writer(stream), &is_late));
+    let writer = TimedWriter::new(rt, guest.writer(stream), longest, &is_late);
+    let mut sink = WriterSink::new(writer);
     let hints = guest.slots().hints();
     match session_at(rt, desk, guest, hints, &mut source, &mut sink) {
         Err(SessionFault::Read | SessionFault::Write(_)) if is_late.get() => Ending::Idle(seconds),
@@ -160,7 +162,8 @@ fn answer_in_time<'a, B: Opening, K: Keeper + Drop, R: Host>(
     }
 }
 
-/// Requests of HTTP over the stream, each of which may take so many seconds to come, or for ever.
+/// Requests of HTTP over the stream, each of which may take so many seconds to come, or for ever. So may each part of a
+/// response that is taken.
 fn answer_requests<'a, B: Opening, K: Keeper + Drop, R: Host>(
     rt: &R,
     desk: &'a Desk<B, K>,
@@ -169,19 +172,21 @@ fn answer_requests<'a, B: Opening, K: Keeper + Drop, R: Host>(
     idle: Option<u32>,
 ) -> Ending {
     let longest = idle.map(|seconds| Duration::from_secs(u64::from(seconds)));
-    if stream.set_read_timeout(longest).is_err() || stream.set_write_timeout(longest).is_err() {
+    let a_try = longest.map(|_| Duration::from_millis(LONGEST_TRY));
+    if stream.set_read_timeout(longest).is_err() || stream.set_write_timeout(a_try).is_err() {
         return Ending::Untimed;
     }
     let was_late = Cell::new(false);
     let front = ServedDesk::new(desk, guest, stream);
-    let mut reader = guest.reader(stream);
+    let (mut reader, mut writer) = (guest.reader(stream), guest.writer(stream));
     let ended = match longest {
         Some(longest) => {
             let awaited = Awaited::Request(guest.has_come());
             let mut reader = TimedStream::new(rt, reader, awaited, longest, &was_late);
-            serve_site(rt, &front, guest, &mut reader, stream)
+            let mut writer = TimedWriter::new(rt, writer, longest, &was_late);
+            serve_site(rt, &front, guest, &mut reader, &mut writer)
         }
-        None => serve_site(rt, &front, guest, &mut reader, stream),
+        None => serve_site(rt, &front, guest, &mut reader, &mut writer),
     };
     match ended {
         Ok(ended) => Ending::of_requests(ended, idle, was_late.get()),
@@ -203,7 +208,8 @@ fn answer_state<'a, B: Opening, K: Keeper + Drop, R: Host>(
     let end = guest.reader(stream).take(EMPTY_LINE);
     let mut reader = fields.chain(CLOSE).chain(end);
     let _limited = stream.set_write_timeout(Some(Duration::from_secs(LONGEST_WRITE)));
-    let ending = match serve_site(rt, &front, guest, &mut reader, stream) {
+    let mut writer = guest.writer(stream);
+    let ending = match serve_site(rt, &front, guest, &mut reader, &mut writer) {
         Ok(ended) => Ending::of_requests(ended, None, false),
         Err(ending) => ending,
     };
@@ -211,14 +217,14 @@ fn answer_state<'a, B: Opening, K: Keeper + Drop, R: Host>(
     guest.note_end(rt, ending);
 }
 
-/// Requests that the reader gives, under the names of the server, with the responses over the stream; or why none is
+/// Requests that the reader gives, under the names of the server, with the responses to the writer; or why none is
 /// answered.
-fn serve_site<B: Opening, K: Keeper + Drop, R: Host, I: Read>(
+fn serve_site<B: Opening, K: Keeper + Drop, R: Host, I: Read, O: Write>(
     rt: &R,
     front: &ServedDesk<'_, B, K>,
     guest: &Guest<'_>,
     reader: &mut I,
-    stream: &TcpStream,
+    writer: &mut O,
 ) -> Result<io::Result<()>, Ending> {
     let Ok(keys) = RandomState::new(rt) else {
         return Err(Ending::Unkeyed);
@@ -229,6 +235,5 @@ fn serve_site<B: Opening, K: Keeper + Drop, R: Host, I: Read>(
         hints: guest.slots().hints(),
         paths: guest.slots().paths(),
     };
-    let mut writer = guest.writer(stream);
-    Ok(serve_page(rt, front, site, keys, reader, &mut writer))
+    Ok(serve_page(rt, front, site, keys, reader, writer))
 }

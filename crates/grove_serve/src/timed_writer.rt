@@ -1,29 +1,71 @@
-use crate::ending::is_late;
-use std::cell::Cell;
-use std::io::{self, Write};
+ghost use Rattle.std.specs.Prelude.{◌≡◌};
 
-/// A writer that tells whether the time for its last write was up.
+use crate::ending::is_late;
+use grove_gauge::TimeLimit;
+use std::cell::Cell;
+use std::io::{self, ErrorKind, Write};
+use std::time::{Clock, Duration, Instant};
+
+/// So many milliseconds a write of the system waits at most, below a timed writer: what it has taken by then it tells.
+pub const LONGEST_TRY: u64 = 100;
+
+/// A writer whose client may take nothing for so long and no longer: then a write fails. Each byte taken wins the whole
+/// time anew.
 #[derive(Drop)]
-pub struct TimedWriter<'a, W> {
+pub struct TimedWriter<'a, R, W> {
+    clock: &'a R,
     writer: W,
+    limit: TimeLimit,
+    /// Whether the time was up.
     is_late: &'a Cell<bool>,
 }
 
-impl<'a, W: Write> TimedWriter<'a, W> {
-    pub fn new(writer: W, is_late: &'a Cell<bool>) -> TimedWriter<'a, W> {
-        TimedWriter { writer, is_late }
+impl<'a, R: Clock, W: Write> TimedWriter<'a, R, W> {
+    /// Over a writer that gives up a write after `LONGEST_TRY`. Once the time was up, `is_late` tells so.
+    pub fn new(
+        clock: &'a R,
+        writer: W,
+        longest: Duration,
+        is_late: &'a Cell<bool>,
+    ) -> TimedWriter<'a, R, W> {
+        TimedWriter {
+            clock,
+            writer,
+            limit: TimeLimit::new(longest),
+            is_late,
+        }
+    }
+
+    /// Is no time left for the client to take something?
+    fn is_time_up(&mut self) -> io::Result<bool>
+        ensures { self.new.writer ≡ self.old.writer }
+    {
+        let now = Instant::now(self.clock)?;
+        let is_late = self.limit.time_left(now).is_zero();
+        self.is_late.set(is_late);
+        Ok(is_late)
     }
 }
 
-impl<W: Write> Write for TimedWriter<'_, W> {
+impl<R: Clock, W: Write> Write for TimedWriter<'_, R, W> {
     ghost contents = { λ timed. W.contents timed.writer };
 
     fn write(&mut self, bytes: &[u8]) -> io::Result<usize> {
-        let written = self.writer.write(bytes);
-        if let Err(error) = &written {
-            self.is_late.set(is_late(error));
+        // A loop is proved to end, so this one counts its turns.
+        for _ in 0..u64::MAX {
+            if self.is_time_up()? {
+                break;
+            }
+            match self.writer.write(bytes) {
+                Err(error) if is_late(&error) => {}
+                Err(error) => return Err(error),
+                Ok(count) => {
+                    self.limit.has_come();
+                    return Ok(count);
+                }
+            }
         }
-        written
+        Err(ErrorKind::TimedOut.into())
     }
 
     fn flush(&mut self) -> io::Result<()> {
