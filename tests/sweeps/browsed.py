@@ -75,6 +75,8 @@ KEYS = (
 )
 # How long a page that pauses is watched, which else looks again after a second; and how long a page may take.
 PAUSED, LONGEST = 2.5, 30.0
+# For longer than the page takes to look again by itself.
+LOOKED_AGAIN = 2.5
 # What the script has to have for all this.
 IDS = ("nodes", "count", "filter", "fold", "unfold", "lists", "plan", "batch", "outcome", "answers", "follow", "state")
 
@@ -91,6 +93,10 @@ class Shown(NamedTuple):
         """The texts of the cells of each row, but for those that aren't shown."""
         cells = "[...row.cells].filter((cell) => cell.offsetParent !== null).map((cell) => cell.textContent)"
         return self.page.run(f"[...document.querySelectorAll({of!r})].map((row) => {cells}.join('|'))")
+
+    def marks(self) -> list[str]:
+        """The marks of what rose and of what fell, row by row."""
+        return self.page.run("[...document.querySelectorAll('[data-change]')].map((cell) => cell.dataset.change)")
 
     def click(self, name: str) -> None:
         self.page.run(f"document.getElementById({name!r}).click()")
@@ -223,14 +229,23 @@ def plans(shown: Shown, server: Serving, tally: Tally) -> None:
 
 
 def batches(shown: Shown, server: Serving, tally: Tally) -> None:
-    """The replies of a batch, and the records that it leaves."""
+    """The replies of a batch, and the records that it leaves, which stay marked until others change."""
     shown.write("lists", LISTS)
     note("the outcome", "Done in round 1. The records are written.", shown.asked("batch"), tally)
     note("the replies", REPLIES, shown.rows("#answers tbody tr"), tally)
     note_soon("the nodes", WRITTEN, shown.rows, tally)
+    # (By then the page waits for a round, so it looks twice at what the next batch does.)
+    time.sleep(LOOKED_AGAIN)
+    note("the marks", ["▼", "▲"], shown.marks(), tally)
     with Client(server.port) as client:
         records = [node["record"] for node in json.loads(client.get("/nodes").body)["nodes"]]
     note("the records", [0, 4, 2**53 + 1, 1 - 2**63], records, tally)
+    shown.write("lists", "add /a 1")
+    note("the next outcome", "Done in round 2. The records are written.", shown.asked("batch"), tally)
+    time.sleep(LOOKED_AGAIN)
+    note("the next marks", (["▲"], "▾a|3|0|5"), (shown.marks(), shown.rows()[1]), tally)
+    add(server, -9)
+    note_soon("the marks of others", ["▼"], shown.marks, tally)
 
 
 def refused(shown: Shown, server: Serving, tally: Tally) -> None:
@@ -254,8 +269,7 @@ def followed(shown: Shown, server: Serving, tally: Tally) -> None:
     for number, (change, mark, record) in enumerate(((5, "▲", 15), (-9, "▼", 6))):
         add(server, change)
         note_soon(f"round {number}", f"▾a|3|0|{record}", lambda: shown.rows()[1], tally)
-        marks = shown.page.run("[...document.querySelectorAll('[data-change]')].map((cell) => cell.dataset.change)")
-        note(f"its mark {number}", [mark], marks, tally)
+        note(f"its mark {number}", [mark], shown.marks(), tally)
     shown.click("follow")
     note("the button", "Follow", shown.text("follow"), tally)
     add(server, 1)

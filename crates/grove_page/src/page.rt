@@ -443,7 +443,8 @@ const UNMARKED = {};
 /** The nodes by their places in the tree's order, each with what the last look found of it. */
 let tree = [];
 
-/** Parents and ends of subtrees are places; `marks` tells what rose and what fell, `was` the weight before. */
+/** Parents and ends of subtrees are places; `marks` tells what rose and what fell at the last change that was seen, `was`
+    the weight before. */
 function treeOf(nodes) {
   const places = new Map(nodes.map((node, at) => [node.path, at]));
   const planted = nodes.map((node, at) => {
@@ -469,13 +470,15 @@ function isKnown(nodes) {
   return nodes.length === tree.length && nodes.every(({ path }, at) => path === tree[at].path);
 }
 
-/** Takes what a look found; of a tree that the page knows it marks what rose and what fell. */
+/** Takes what a look found; of a tree that the page knows it marks what rose and what fell. These marks stay until a look
+    finds other numbers, so that a second look at the same change leaves them. */
 function takeNodes(nodes, isAnew) {
   const isOther = !isKnown(nodes);
   if (isOther) plant(nodes);
   if (isAnew) forgetReweighing("");
   else noteReweighing(nodes);
-  tree.forEach((entry, at) => renew(entry, nodes[at], isAnew));
+  const hasChanged = tree.some(({ node }, at) => NUMBERS.some((name) => node[name] !== nodes[at][name]));
+  if (isAnew || hasChanged) tree.forEach((entry, at) => renew(entry, nodes[at], isAnew));
   showTree();
   if (isOther) measure();
 }
@@ -626,8 +629,8 @@ function showTree() {
   table.classList.toggle("ranked", view.order !== "tree");
   table.classList.toggle("reweighed", tree.some((entry) => entry.was !== undefined));
   put(table, "aria-rowcount", shown.length + 1);
-  write(byId("legend"), `Colour and bar grow with a node's ${by}, up to ${most}. ▲ rose, and ▼ fell, since the last`
-    + " look.");
+  write(byId("legend"), `Colour and bar grow with a node's ${by}, up to ${most}. ▲ rose, and ▼ fell, at the last`
+    + " change.");
   write(byId("count"), countText());
   showHeads();
   fitColumns(table);
