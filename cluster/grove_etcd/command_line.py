@@ -4,31 +4,33 @@ from __future__ import annotations
 import argparse
 import os
 import sys
-import traceback
 from importlib import import_module
 from io import TextIOWrapper
-from pathlib import Path
 from typing import Any, Callable, NoReturn
 
 from .later import later
 
-# A program imports this module before the others, which import these. No program uses gRPC from tasks of an event loop,
-# and to load what that needs takes half as long again.
+# A program imports this module before the others, which import these. What isn't used of them takes longer to load than
+# a short program for its work.
 try:
-    with later("asyncio", "grpc.aio"):
-        import_module("grpc")
-    import_module("google.protobuf.message_factory")
+    with later("calendar", "inspect"):
+        import_module("dataclasses")
+        import_module("google.protobuf.descriptor_pb2")
+        import_module("google.protobuf.message_factory")
 except Exception as why:  # packages that don't go together raise errors of their own
+    from .connecting import LACKS
+
     usage = sys.modules["__main__"].__doc__
     if usage and {"-h", "--help"} & set(sys.argv[1:]):
         print(usage.strip())
         sys.exit(0)
     told = " ".join(str(why).split())
-    print(f"{Path(sys.argv[0]).name}: needs the Python packages grpcio and protobuf ({told})", file=sys.stderr)
+    print(f"{os.path.basename(sys.argv[0])}: {LACKS} ({told})", file=sys.stderr)
     sys.exit(3)
 
+from .connecting import Credentials
 from .keys import Keys
-from .members import Credentials, Lost, Members, addresses_of
+from .members import Lost, Members, addresses_of
 from .nested import warning
 from .refusals import Failed, Refused
 
@@ -83,7 +85,11 @@ def credentials_of(given: argparse.Namespace) -> Credentials:
     return Credentials(given.cacert, given.cert, given.key, user, password or os.environ.get(PASSWORD))
 
 
-def run(parser: argparse.ArgumentParser, program: Program) -> None:
+def run(
+    parser: argparse.ArgumentParser,
+    program: Program,
+    is_brief: Callable[[argparse.Namespace], bool] = lambda _: False,
+) -> None:
     """Runs a program on the members and keys that its arguments name. Its status is 1 if it refuses, 2 if an argument
     is wrong, and 3 if no member answers, a file, a program or etcd fails, or the program itself has an error."""
     given = parser.parse_args()
@@ -94,7 +100,7 @@ def run(parser: argparse.ArgumentParser, program: Program) -> None:
         addresses, keys, credentials = addresses_of(given.members), Keys(given.store), credentials_of(given)
     except ValueError as bad:
         parser.error(str(bad))
-    end(status_of(lambda: program(Members(addresses, credentials), keys, given)))
+    end(status_of(lambda: program(Members(addresses, credentials, is_brief=is_brief(given)), keys, given)))
 
 
 def end(status: int) -> NoReturn:
@@ -140,7 +146,9 @@ def status_told(program: Callable[[], Any]) -> int:
     except KeyboardInterrupt:
         return 130
     except Exception:  # an error of the program itself
-        traceback.print_exc()
+        from traceback import print_exc
+
+        print_exc()
         return 3
 
 

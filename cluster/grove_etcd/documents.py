@@ -5,7 +5,6 @@ from __future__ import annotations
 import json
 import math
 import re
-from pathlib import Path
 from typing import Any, Sequence
 
 from .refusals import Failed, Refused
@@ -19,10 +18,10 @@ SURROGATE = re.compile(r"[\ud800-\udfff]")
 
 def read_document(file: str) -> dict[str, Any]:
     try:
-        content = Path(file).read_bytes()
+        with open(file, "rb") as it:
+            return parsed(it.read())
     except OSError as why:
         raise Failed(f"{file}: {why.strerror}") from why
-    return parsed(content)
 
 
 def parsed(content: bytes) -> dict[str, Any]:

@@ -7,13 +7,13 @@ from __future__ import annotations
 
 import random
 import time
-from concurrent.futures import ThreadPoolExecutor
-from dataclasses import dataclass
-from pathlib import Path
-from typing import Any, Callable, Iterator, Sequence
+from functools import cached_property, partial
+from threading import Thread
+from typing import Any, Callable, Iterator, Optional, Sequence
 
-import grpc
 from . import etcdrpc
+from .brief import Call
+from .connecting import Credentials, errors
 from .refusals import Failed
 from .wire import (
     Done,
@@ -42,26 +42,17 @@ CALL_SECONDS = 5.0
 GIVE_UP_SECONDS = 60.0
 # Between tries; each pause is a random part of the next length.
 FIRST_PAUSE_SECONDS, LONGEST_PAUSE_SECONDS = 0.05, 3.0
-OPTIONS = [
-    ("grpc.initial_reconnect_backoff_ms", 100),
-    ("grpc.max_reconnect_backoff_ms", 1000),
-    ("grpc.max_receive_message_length", -1),
-    # Calls are repeated below, so gRPC needs to keep no copy of a request.
-    ("grpc.enable_retries", 0),
-    # So a connection that hangs, as one made while a member starts, isn't shared with other clients.
-    ("grpc.use_local_subchannel_pool", 1),
-]
 RANGE, TRANSACT, WATCH = "/etcdserverpb.KV/Range", "/etcdserverpb.KV/Txn", "/etcdserverpb.Watch/Watch"
 AUTHENTICATE = "/etcdserverpb.Auth/Authenticate"
 # RESOURCE_EXHAUSTED is the answer of a member that has too much to do, or no space left.
 NO_ANSWER = {
-    grpc.StatusCode.UNAVAILABLE,
-    grpc.StatusCode.DEADLINE_EXCEEDED,
-    grpc.StatusCode.CANCELLED,
-    grpc.StatusCode.UNKNOWN,
-    grpc.StatusCode.INTERNAL,
-    grpc.StatusCode.ABORTED,
-    grpc.StatusCode.RESOURCE_EXHAUSTED,
+    "UNAVAILABLE",
+    "DEADLINE_EXCEEDED",
+    "CANCELLED",
+    "UNKNOWN",
+    "INTERNAL",
+    "ABORTED",
+    "RESOURCE_EXHAUSTED",
 }
 
 
@@ -77,55 +68,39 @@ class Lost(Exception):
     """No member answered; the change may have been made, or not."""
 
 
-@dataclass(frozen=True)
-class Credentials:
-    """As those of etcdctl: files with certificates and a key, and a user with a password."""
-
-    cacert: str | None = None
-    cert: str | None = None
-    key: str | None = None
-    user: str | None = None
-    password: str | None = None
-
-    def channel(self, address: str) -> Any:
-        if self.cacert is None:
-            return grpc.insecure_channel(address, options=OPTIONS)
-        root, key, cert = (file and content_of(file) for file in (self.cacert, self.key, self.cert))
-        return grpc.secure_channel(address, grpc.ssl_channel_credentials(root, key, cert), options=OPTIONS)
-
-
-def content_of(file: str) -> bytes:
-    try:
-        return Path(file).read_bytes()
-    except OSError as why:
-        raise Failed(f"{file}: {why.strerror}") from why
-
-
 class Member:
-    """One member, with a connection of its own."""
+    """One member, with a connection of its own. If it is brief, each call has one, until gRPC is needed."""
 
-    def __init__(self, address: str, credentials: Credentials) -> None:
+    def __init__(self, address: str, credentials: Credentials, is_brief: bool = False) -> None:
         self.address, self.credentials = address, credentials
-        self.channel = credentials.channel(address)
-        self.range = self.channel.unary_unary(
-            RANGE,
-            request_serializer=etcdrpc.RangeRequest.SerializeToString,
-            response_deserializer=etcdrpc.RangeResponse.FromString,
-        )
-        self.enter = self.channel.unary_unary(
-            AUTHENTICATE,
-            request_serializer=etcdrpc.AuthenticateRequest.SerializeToString,
-            response_deserializer=etcdrpc.AuthenticateResponse.FromString,
+        self.is_brief = is_brief and credentials.cacert is None
+        self.range = self.unary(RANGE, etcdrpc.RangeRequest.SerializeToString, etcdrpc.RangeResponse.FromString)
+        self.enter = self.unary(
+            AUTHENTICATE, etcdrpc.AuthenticateRequest.SerializeToString, etcdrpc.AuthenticateResponse.FromString
         )
         # Takes a request that is serialized already.
-        self.transact = self.channel.unary_unary(TRANSACT, response_deserializer=etcdrpc.TxnResponse.FromString)
-        # Takes a single request: a stream of them would need a thread for each watch.
-        self.watch = self.channel.unary_stream(
+        self.transact = self.unary(TRANSACT, None, etcdrpc.TxnResponse.FromString)
+        self.token: tuple[tuple[str, str], ...] = ()
+
+    @cached_property
+    def channel(self) -> Any:
+        return self.credentials.channel(self.address)
+
+    def unary(self, path: str, serialize: Optional[Callable[[Any], bytes]], parse: Callable[[bytes], Any]) -> Any:
+        by_grpc = partial(self.unary_by_grpc, path, serialize, parse)
+        return Call(self.address, path, serialize, parse, by_grpc) if self.is_brief else by_grpc()
+
+    def unary_by_grpc(self, path: str, serialize: Any, parse: Any) -> Any:
+        return self.channel.unary_unary(path, request_serializer=serialize, response_deserializer=parse)
+
+    @cached_property
+    def watch(self) -> Any:
+        """Takes a single request: a stream of them would need a thread for each watch."""
+        return self.channel.unary_stream(
             WATCH,
             request_serializer=etcdrpc.WatchRequest.SerializeToString,
             response_deserializer=etcdrpc.WatchResponse.FromString,
         )
-        self.token: tuple[tuple[str, str], ...] = ()
 
     def transact_all(self, requests: list[Request], seconds: float, metadata: Any) -> list[Any]:
         """Several transactions, side by side."""
@@ -147,7 +122,7 @@ class Member:
             self.authenticate(seconds)
         try:
             return call(request, seconds, metadata=self.token)
-        except grpc.RpcError as error:
+        except errors() as error:
             if self.credentials.user is None or not wants_token(error):
                 raise
         self.authenticate(seconds)
@@ -155,18 +130,46 @@ class Member:
 
 
 def wants_token(error: Any) -> bool:
-    return error.code() is grpc.StatusCode.UNAUTHENTICATED or "invalid auth token" in (error.details() or "")
+    return error.code().name == "UNAUTHENTICATED" or "invalid auth token" in (error.details() or "")
+
+
+class Aside(Thread):
+    """A call that goes on beside others. A pool of threads takes long to be loaded."""
+
+    def __init__(self, call: Callable[[], Any]) -> None:
+        super().__init__(daemon=True)
+        self.call = call
+        self.came: Any = None
+        self.error: Optional[Exception] = None
+        self.start()
+
+    def run(self) -> None:
+        try:
+            self.came = self.call()
+        except Exception as why:  # who waits for it raises it
+            self.error = why
+
+    def result(self) -> Any:
+        self.join()
+        if self.error is not None:
+            raise self.error
+        return self.came
 
 
 class Members:
     def __init__(
-        self, addresses: Sequence[str], credentials: Credentials = Credentials(), seconds: float = CALL_SECONDS
+        self,
+        addresses: Sequence[str],
+        credentials: Credentials = Credentials(),
+        seconds: float = CALL_SECONDS,
+        is_brief: bool = False,
     ) -> None:
-        """A member is waited for as long as `seconds` says."""
+        """A member is waited for as long as `seconds` says. Who makes a few calls only is brief: it needs no gRPC for
+        them."""
         self.seconds = seconds
         # The watches that are waited for at present.
         self.watches: set[Any] = set()
-        self.members = [Member(address, credentials) for address in addresses]
+        self.members = [Member(address, credentials, is_brief) for address in addresses]
         random.shuffle(self.members)
 
     @property
@@ -229,10 +232,8 @@ class Members:
 
     def counts(self, prefixes: Sequence[str], revision: int) -> Callable[[], list[int]]:
         """The same of several, side by side. Gives what waits for them, and something else can be done meanwhile."""
-        pool = ThreadPoolExecutor(len(prefixes))
-        counts = pool.map(lambda prefix: self.count(prefix, revision), prefixes)
-        pool.shutdown(wait=False)
-        return lambda: list(counts)
+        counts = [Aside(partial(self.count, prefix, revision)) for prefix in prefixes]
+        return lambda: [each.result() for each in counts]
 
     def range(self, request: Any) -> Any:
         return self.call_until_answered(lambda member: member.ask(member.range, request, self.seconds))
@@ -273,7 +274,7 @@ class Members:
         member = self.asked
         try:
             return done(member.ask(member.transact, request, min(self.seconds, seconds or self.seconds)))
-        except grpc.RpcError as error:
+        except errors() as error:
             self.turn(member)
             raise lost(member, error) from error
 
@@ -297,7 +298,7 @@ class Members:
             member = self.asked
             try:
                 return asked(member)
-            except grpc.RpcError as error:
+            except errors() as error:
                 self.turn(member)
                 no_answer = lost(member, error)
                 if time.monotonic() > until:
@@ -316,7 +317,7 @@ class Members:
 
 # What gRPC says of a request that is larger than members take, with the code of a member that has too much to do.
 TOO_LARGE = "larger than max"
-KINDS = {grpc.StatusCode.INVALID_ARGUMENT: Unfit, grpc.StatusCode.OUT_OF_RANGE: Compacted}
+KINDS = {"INVALID_ARGUMENT": Unfit, "OUT_OF_RANGE": Compacted}
 
 
 def pauses() -> Iterator[float]:
@@ -331,8 +332,9 @@ def lost(member: Member, error: Any) -> Lost:
     """`Lost`, if the error means that there was no answer; any other one is raised with etcd's own message."""
     if TOO_LARGE in (error.details() or ""):
         raise Unfit(f"etcd at {member.address}: {error.details()}") from error
-    if error.code() not in NO_ANSWER:
-        raise KINDS.get(error.code(), Failed)(f"etcd at {member.address}: {error.details()}") from error
+    code = error.code().name
+    if code not in NO_ANSWER:
+        raise KINDS.get(code, Failed)(f"etcd at {member.address}: {error.details()}") from error
     return Lost(f"{member.address}: {error.details()}")
 
 

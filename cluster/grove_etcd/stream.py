@@ -10,8 +10,7 @@ from queue import Empty, Queue
 from types import TracebackType
 from typing import Any, NamedTuple, Optional, Union
 
-import grpc
-
+from .connecting import errors
 from .etcdrpc import DELETED
 from .keys import Keys
 from .members import Compacted, Member, Members, lost
@@ -94,7 +93,7 @@ class Stream:
                     self.since = revision + 1
                 if answer.canceled:
                     return
-        except grpc.RpcError as error:
+        except errors() as error:
             self.members.turn(member)
             if not self.has_ended.is_set():
                 # Raises what isn't the loss of a member.

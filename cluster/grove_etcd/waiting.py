@@ -8,15 +8,14 @@ from __future__ import annotations
 from dataclasses import dataclass
 from typing import Any, Callable, Generator, Optional
 
-import grpc
-
+from .connecting import errors
 from .members import Members
 from .wire import Change, change, looking_back, missed, watching
 
 # With it etcd ends a watch at a member that has lost the others, and that would never report anything.
 NEEDS_LEADER = ("hasleader", "true")
 # How a watch ends for which nobody waits any longer.
-OURS = {grpc.StatusCode.DEADLINE_EXCEEDED, grpc.StatusCode.CANCELLED}
+OURS = {"DEADLINE_EXCEEDED", "CANCELLED"}
 
 
 @dataclass(frozen=True)
@@ -49,8 +48,8 @@ def changes(
             yield from (each for each in map(change, answer.events) if each.revision > revision)
             if answer.canceled:
                 return
-    except grpc.RpcError as error:
-        if error.code() not in OURS:
+    except errors() as error:
+        if error.code().name not in OURS:
             members.turn(member)
     finally:
         watches.discard(answers)

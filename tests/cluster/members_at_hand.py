@@ -9,7 +9,8 @@ from pathlib import Path
 TOP = Path(__file__).resolve().parents[2]
 sys.path[:0] = [str(TOP / "cluster"), str(TOP / "tests")]
 
-from grove_etcd.members import Credentials, Lost, Members  # noqa: E402
+from grove_etcd.connecting import Credentials  # noqa: E402
+from grove_etcd.members import Lost, Members  # noqa: E402
 from server import HOST, free_port  # noqa: E402
 
 # How long a member may take to answer after it was started.

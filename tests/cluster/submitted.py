@@ -8,7 +8,7 @@ from dataclasses import replace
 from random import Random
 
 from members_at_hand import TOP
-from store_at_hand import BOTH, SECONDS, SMALL, Programs, Store, refusal
+from store_at_hand import BOTH, SECONDS, SMALL, Programs, Store, one_group, refusal
 
 from grove_etcd.choosing import MOST_JOBS
 from grove_etcd.documents import array_of, parsed, paths_of
@@ -247,6 +247,26 @@ def errors_are_a_line_and_a_status(cluster, grove):
     if statuses != [2] * len(wrong):
         faults.append(f"statuses {statuses}")
     return "; ".join(faults) or fault_of_garbage(programs) or fault_of_unread(programs)
+
+
+def status_needs_no_grpc(cluster, grove):
+    """It says the same where that can't be loaded; and for what needs it all the same, what is lacking."""
+    store, programs = Store(cluster, grove, "brief", [BOTH, BOTH]), Programs(cluster, "brief")
+    one_group(store.attempt(0))
+    folder = programs.room / "lacking"
+    folder.mkdir()
+    (folder / "grpc.py").write_text("raise ImportError('none')")
+    lacking = {**os.environ, "PYTHONPATH": str(folder)}
+    words = "status", "--failed", "--record", "/a"
+    with_it, without, jobs = (
+        programs.run(*words),
+        programs.ran(*words, env=lacking),
+        programs.ran("status", "--jobs", env=lacking),
+    )
+    told = "needs the Python packages grpcio and protobuf (none)\n"
+    came = with_it, (without.returncode, without.stdout), (jobs.returncode, jobs.stdout, jobs.stderr)
+    wanted = (0, without.stdout), (0, "epoch 1: 2 jobs, 0 ended; 2 nodes held\nrecord 10\n"), (3, "", told)
+    return None if came == wanted else f"wanted {wanted}; came {came}"
 
 
 def fault_of_garbage(programs):

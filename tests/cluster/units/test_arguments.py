@@ -9,8 +9,9 @@ from unittest import mock
 import here  # noqa: F401
 from grove_etcd import planners
 from grove_etcd.command_line import arguments, credentials_of
+from grove_etcd.connecting import Credentials
 from grove_etcd.journal import Journal, line_of
-from grove_etcd.members import LONGEST_PAUSE_SECONDS, Credentials, addresses_of, pauses
+from grove_etcd.members import LONGEST_PAUSE_SECONDS, addresses_of, pauses
 from grove_etcd.planners import By, planner_of
 from grove_etcd.planning import Planner
 from grove_etcd.refusals import Refused

@@ -8,7 +8,7 @@ FILES = (Path(__file__).resolve().parents[3] / "cluster").iterdir()
 PROGRAMS = sorted(path for path in FILES if path.is_file() and not path.suffix)
 # A Python that finds no packages but its own.
 ALONE = [sys.executable, "-B", "-E", "-S"]
-SAYS = "{}: needs the Python packages grpcio and protobuf (No module named 'grpc')\n"
+SAYS = "{}: needs the Python packages grpcio and protobuf (No module named 'google')\n"
 
 
 class Packages(unittest.TestCase):
