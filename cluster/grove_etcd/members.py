@@ -74,12 +74,12 @@ class Member:
     def __init__(self, address: str, credentials: Credentials, is_brief: bool = False) -> None:
         self.address, self.credentials = address, credentials
         self.is_brief = is_brief and credentials.cacert is None
-        self.range = self.unary(RANGE, etcdrpc.RangeRequest.SerializeToString, etcdrpc.RangeResponse.FromString)
+        # These take requests that are serialized already.
+        self.range = self.unary(RANGE, None, etcdrpc.RangeResponse.FromString)
+        self.transact = self.unary(TRANSACT, None, etcdrpc.TxnResponse.FromString)
         self.enter = self.unary(
             AUTHENTICATE, etcdrpc.AuthenticateRequest.SerializeToString, etcdrpc.AuthenticateResponse.FromString
         )
-        # Takes a request that is serialized already.
-        self.transact = self.unary(TRANSACT, None, etcdrpc.TxnResponse.FromString)
         self.token: tuple[tuple[str, str], ...] = ()
 
     @cached_property

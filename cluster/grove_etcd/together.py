@@ -19,6 +19,8 @@ from .wire import Entry, Found, Guard, Operation, deleting, putting, reading, re
 
 # Of chunks in one transaction. None reads what another one changes, so each is one part of it.
 MOST_CHUNKS = 16
+# Of jobs that wait, whatever for: if they are so few, one read tells of which nodes there are lines.
+MOST_WAITERS = 64
 assert MOST_CHUNKS + MOST_SHARED <= MOST_OPERATIONS
 
 
@@ -75,10 +77,13 @@ class Chunk:
         return [each.job for each in some if not self.take([each])]
 
     def reads(self, keys: Keys) -> list[Operation]:
-        """Of each node that is locked who holds it and who is the first that waits, and the records."""
+        """Of each node that is locked who holds it, and the records."""
         owners = [reading(keys.owner(path)) for path in self.locked]
-        lines = [reading_below(keys.waiters(path), limit=1, keys_only=True) for path in self.locked]
-        return [*owners, *lines, *(reading(keys.record(path)) for path in self.accessed)]
+        return [*owners, *(reading(keys.record(path)) for path in self.accessed)]
+
+    def reads_of_lines(self, keys: Keys) -> list[Operation]:
+        """Of each node that is locked who is the first that waits."""
+        return [reading_below(keys.waiters(path), limit=1, keys_only=True) for path in self.locked]
 
 
 @dataclass
@@ -191,12 +196,21 @@ class Batch:
             rest += chunks[-1].take_some(some)
         return Batch([chunk for chunk in chunks if chunk.jobs], [each.job for each in short if not each.fits], rest)
 
+    def seen(self, keys: Keys, members: Members) -> Found:
+        """Each key that matters is guarded, so what is read needn't be of one revision."""
+        reads = [read for chunk in self.chunks for read in chunk.reads(keys)]
+        waiters = reading_below(keys.whole("v"), MOST_WAITERS, keys_only=True)
+        found = members.read_side_by_side([waiters, *reads], since=1)
+        if len(found.below(keys.whole("v"))) < MOST_WAITERS:
+            return found
+        lines = [read for chunk in self.chunks for read in chunk.reads_of_lines(keys)]
+        return members.read_side_by_side([*reads, *lines], since=1)
+
     def do(self, keys: Keys, members: Members, commits: Commits) -> Outcome:
         """Does as many of the jobs as can be done whole."""
         if not self.chunks:
             return Outcome(left=self.large, rest=self.rest)
-        # Each key that matters is guarded, so what was read needn't be of one revision.
-        found = members.read_side_by_side([read for chunk in self.chunks for read in chunk.reads(keys)], since=1)
+        found = self.seen(keys, members)
         every = [Together(keys, found) for _ in self.chunks]
         for together, chunk in zip(every, self.chunks):
             for job in chunk.jobs:

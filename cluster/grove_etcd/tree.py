@@ -1,7 +1,11 @@
 """Nodes as paths, and the part of a tree above some of its nodes."""
 from __future__ import annotations
 
+from functools import lru_cache
 from typing import Iterable, Mapping, TypedDict
+
+# Of paths of which the way down is kept.
+MOST_KEPT = 16384
 
 
 class Row(TypedDict):
@@ -22,10 +26,11 @@ def path_of(names: tuple[str, ...]) -> str:
     return "/" + "/".join(names)
 
 
-def way_down(path: str) -> list[str]:
+@lru_cache(MOST_KEPT)
+def way_down(path: str) -> tuple[str, ...]:
     """The paths of the nodes above a node, and its own as the last."""
     names = names_of(path)
-    return [path_of(names[:depth]) for depth in range(len(names) + 1)]
+    return tuple(path_of(names[:depth]) for depth in range(len(names) + 1))
 
 
 def ways_down(paths: Iterable[str]) -> list[str]:

@@ -1,4 +1,8 @@
-"""etcd's messages. Only this module, those of members and of watches, and the table of messages know their form."""
+"""etcd's messages. Only this module, those of members and of watches, and the table of messages know their form.
+
+Requests are serialized here, piece by piece, as protobuf's wire format has them: a worker's time is largely theirs, and
+by the messages of a table each piece is made, copied and then serialized.
+"""
 from __future__ import annotations
 
 from dataclasses import dataclass
@@ -7,11 +11,22 @@ from typing import Any, Iterable, Iterator, NamedTuple, NewType, Sequence
 
 from . import etcdrpc
 
-# A compare of a transaction; and an operation: a read or a change.
-Guard = NewType("Guard", object)
-Operation = NewType("Operation", object)
-# A serialized transaction.
+# A compare of a transaction; and an operation: a read or a change. Both have their length before them.
+Guard = NewType("Guard", bytes)
+Operation = NewType("Operation", bytes)
+# A serialized transaction, or read of keys.
 Request = NewType("Request", bytes)
+
+# Before each field of a message stands its number in the table of messages, with 0 if its value is a number, and 2 if
+# it is bytes or a message.
+COMPARE, THEN, OTHERWISE = b"\x0a", b"\x12", b"\x1a"
+RANGE, PUT, DELETE, TRANSACTION = b"\x0a", b"\x12", b"\x1a", b"\x22"
+KEY, END, LIMIT, REVISION, ORDER, TARGET = b"\x0a", b"\x12", b"\x18", b"\x20", b"\x28", b"\x30"
+AT_HAND, KEYS_ONLY, COUNT_ONLY, SINCE = b"\x38\x01", b"\x40\x01", b"\x48\x01", b"\x50"
+PUT_VALUE = b"\x12"
+RESULT, COMPARED, COMPARED_KEY, IS_VERSION, IS_MOD, IS_VALUE = b"\x08", b"\x10", b"\x1a", b"\x20", b"\x30", b"\x3a"
+# Numbers of one byte.
+SMALL = [bytes([number]) for number in range(128)]
 
 
 def text_of(content: bytes) -> str:
@@ -20,7 +35,32 @@ def text_of(content: bytes) -> str:
 
 
 def bytes_of(text: str) -> bytes:
-    return text.encode(errors="surrogateescape")
+    return text.encode("utf-8", "surrogateescape")
+
+
+def whole(number: int) -> bytes:
+    """In bytes of 7 bits, the lowest first, each but the last with its eighth bit."""
+    if number < 128:
+        return SMALL[number]
+    parts = []
+    while number >= 128:
+        parts.append(number & 127 | 128)
+        number >>= 7
+    return bytes([*parts, number])
+
+
+def sized(content: bytes) -> bytes:
+    """With its length before it."""
+    size = len(content)
+    return (SMALL[size] if size < 128 else whole(size)) + content
+
+
+def unsized(content: bytes) -> bytes:
+    """The same without its length."""
+    start = 0
+    while content[start] & 128:
+        start += 1
+    return content[start + 1 :]
 
 
 class Entry(NamedTuple):
@@ -105,26 +145,24 @@ class Branches(NamedTuple):
     then: list[Operation]
     otherwise: list[Operation]
 
-    def fill(self, transaction: Any) -> None:
-        """An empty one is one, too."""
-        transaction.SetInParent()
-        transaction.compare.extend(self.guards)
-        transaction.success.extend(self.then)
-        transaction.failure.extend(self.otherwise)
+    def request(self) -> Request:
+        parts = [COMPARE + each for each in self.guards]
+        parts += [THEN + each for each in self.then]
+        parts += [OTHERWISE + each for each in self.otherwise]
+        return Request(b"".join(parts))
+
+    def operation(self) -> Operation:
+        """As a transaction within one."""
+        return Operation(sized(TRANSACTION + sized(self.request())))
 
 
 def request_of(guards: list[Guard], then: list[Operation], otherwise: list[Operation]) -> Request:
-    transaction = etcdrpc.TxnRequest()
-    Branches(guards, then, otherwise).fill(transaction)
-    return Request(transaction.SerializeToString())
+    return Branches(guards, then, otherwise).request()
 
 
 def request_of_all(parts: Iterable[Branches]) -> Request:
     """A transaction of these, one after the other, each of which is made by itself."""
-    transaction = etcdrpc.TxnRequest()
-    for part in parts:
-        part.fill(transaction.success.add().request_txn)
-    return Request(transaction.SerializeToString())
+    return request_of([], [part.operation() for part in parts], [])
 
 
 def done(answer: Any) -> Done:
@@ -146,64 +184,61 @@ def entry_of(pair: Any) -> tuple[str, Entry]:
     return text_of(pair.key), entry
 
 
-def ranging(start: str, end: str, limit: int = 0, revision: int = 0, keys_only: bool = False) -> Any:
-    """Reads the keys from `start` up to `end`, in their order."""
-    return etcdrpc.RangeRequest(
-        key=bytes_of(start), range_end=bytes_of(end), limit=limit, revision=revision, keys_only=keys_only
-    )
+def ranging(
+    start: str, end: str = "", limit: int = 0, revision: int = 0, keys_only: bool = False, more: bytes = b""
+) -> Request:
+    """Reads the keys from `start` up to `end`, in their order; without an end `start` alone. `more` are fields."""
+    content = KEY + sized(bytes_of(start))
+    content += END + sized(bytes_of(end)) if end else b""
+    content += LIMIT + whole(limit) if limit else b""
+    content += REVISION + whole(revision) if revision else b""
+    return Request(content + (KEYS_ONLY if keys_only else b"") + more)
 
 
-def counting(prefix: str, revision: int = 0, is_at_hand: bool = False) -> Any:
-    return etcdrpc.RangeRequest(
-        key=bytes_of(prefix),
-        range_end=bytes_of(after(prefix)),
-        count_only=True,
-        revision=revision,
-        serializable=is_at_hand,
-    )
+def counting(prefix: str, revision: int = 0, is_at_hand: bool = False) -> Request:
+    return ranging(prefix, after(prefix), 0, revision, more=COUNT_ONLY + (AT_HAND if is_at_hand else b""))
 
 
 def reading(key: str, revision: int = 0, keys_only: bool = False) -> Operation:
-    request = etcdrpc.RangeRequest(key=bytes_of(key), revision=revision, keys_only=keys_only)
-    return Operation(etcdrpc.RequestOp(request_range=request))
+    return as_operation(ranging(key, revision=revision, keys_only=keys_only))
+
+
+def as_operation(read: Request) -> Operation:
+    return Operation(sized(RANGE + sized(read)))
 
 
 def at_hand(read: Operation) -> Operation:
     """The same read, answered by the asked member alone (etcd's serializable reads)."""
-    request = etcdrpc.RequestOp()
-    request.CopyFrom(read)
-    request.request_range.serializable = True
-    return Operation(request)
+    return as_operation(Request(unsized(unsized(read)[len(RANGE) :]) + AT_HAND))
 
 
 def reading_below(prefix: str, limit: int = 0, revision: int = 0, keys_only: bool = False) -> Operation:
-    request = ranging(prefix, after(prefix), limit, revision, keys_only)
-    return Operation(etcdrpc.RequestOp(request_range=request))
+    return as_operation(ranging(prefix, after(prefix), limit, revision, keys_only))
 
 
 def reading_from(start: str, end: str, limit: int = 0) -> Operation:
     """Reads the keys from `start` up to `end`."""
-    return Operation(etcdrpc.RequestOp(request_range=ranging(start, end, limit)))
+    return as_operation(ranging(start, end, limit))
 
 
 def reading_last(start: str, end: str, revision: int = 0, keys_only: bool = False) -> Operation:
     """Reads the last key from `start` up to `end`."""
-    request = ranging(start, end, 1, revision, keys_only)
-    request.sort_order, request.sort_target = etcdrpc.DESCENDING, etcdrpc.BY_KEY
-    return Operation(etcdrpc.RequestOp(request_range=request))
+    downwards = ORDER + whole(etcdrpc.DESCENDING) + TARGET + whole(etcdrpc.BY_KEY)
+    return as_operation(ranging(start, end, 1, revision, keys_only, downwards))
 
 
 def putting(key: str, value: str) -> Operation:
-    return Operation(etcdrpc.RequestOp(request_put=etcdrpc.PutRequest(key=bytes_of(key), value=bytes_of(value))))
+    content = KEY + sized(bytes_of(key)) + PUT_VALUE + sized(bytes_of(value))
+    return Operation(sized(PUT + sized(content)))
 
 
 def deleting(key: str) -> Operation:
-    return Operation(etcdrpc.RequestOp(request_delete_range=etcdrpc.DeleteRangeRequest(key=bytes_of(key))))
+    return Operation(sized(DELETE + sized(KEY + sized(bytes_of(key)))))
 
 
 def deleting_from(start: str, end: str) -> Operation:
-    request = etcdrpc.DeleteRangeRequest(key=bytes_of(start), range_end=bytes_of(end))
-    return Operation(etcdrpc.RequestOp(request_delete_range=request))
+    content = KEY + sized(bytes_of(start)) + END + sized(bytes_of(end))
+    return Operation(sized(DELETE + sized(content)))
 
 
 def deleting_below(prefix: str) -> Operation:
@@ -212,14 +247,18 @@ def deleting_below(prefix: str) -> Operation:
 
 def choosing(guards: list[Guard], then: list[Operation], otherwise: list[Operation]) -> Operation:
     """A nested transaction: one or the other."""
-    operation = etcdrpc.RequestOp()
-    Branches(guards, then, otherwise).fill(operation.request_txn)
-    return Operation(operation)
+    return Branches(guards, then, otherwise).operation()
+
+
+def comparing(key: str, target: int, result: int, wanted: bytes) -> Guard:
+    """What is `wanted` has its field before it."""
+    kind = (RESULT + whole(result) if result else b"") + (COMPARED + whole(target) if target else b"")
+    return Guard(sized(kind + COMPARED_KEY + sized(bytes_of(key)) + wanted))
 
 
 def unchanged(key: str, revision: int) -> Guard:
     """The key was last put at this revision; at revision 0, it isn't there."""
-    return Guard(etcdrpc.Compare(result=etcdrpc.EQUAL, target=etcdrpc.MOD, key=bytes_of(key), mod_revision=revision))
+    return comparing(key, etcdrpc.MOD, etcdrpc.EQUAL, IS_MOD + whole(revision))
 
 
 def absent(key: str) -> Guard:
@@ -228,18 +267,16 @@ def absent(key: str) -> Guard:
 
 def put_before(key: str, revision: int) -> Guard:
     """The key was last put before this revision, or isn't there."""
-    return Guard(etcdrpc.Compare(result=etcdrpc.LESS, target=etcdrpc.MOD, key=bytes_of(key), mod_revision=revision))
+    return comparing(key, etcdrpc.MOD, etcdrpc.LESS, IS_MOD + whole(revision))
 
 
 def present(key: str) -> Guard:
-    return Guard(etcdrpc.Compare(result=etcdrpc.GREATER, target=etcdrpc.VERSION, key=bytes_of(key), version=0))
+    return comparing(key, etcdrpc.VERSION, etcdrpc.GREATER, IS_VERSION + whole(0))
 
 
 def other_than(key: str, value: str) -> Guard:
     """The key is there, with another value."""
-    return Guard(
-        etcdrpc.Compare(result=etcdrpc.NOT_EQUAL, target=etcdrpc.VALUE, key=bytes_of(key), value=bytes_of(value))
-    )
+    return comparing(key, etcdrpc.VALUE, etcdrpc.NOT_EQUAL, IS_VALUE + sized(bytes_of(value)))
 
 
 def watching(key: str, end: str | None = None) -> Any:
@@ -256,12 +293,10 @@ def following(key: str, end: str, since: int) -> Any:
     return etcdrpc.WatchRequest(create_request=create)
 
 
-def looking_back(key: str, end: str | None, since: int) -> Any:
+def looking_back(key: str, end: str | None, since: int) -> Request:
     """Reads the key, or those from it up to `end`, if put at this revision or later; answered by the asked member
     alone."""
-    return etcdrpc.RangeRequest(
-        key=bytes_of(key), range_end=bytes_of(end or ""), min_mod_revision=since, serializable=True
-    )
+    return ranging(key, end or "", more=AT_HAND + (SINCE + whole(since) if since else b""))
 
 
 @dataclass(frozen=True)

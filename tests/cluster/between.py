@@ -98,8 +98,8 @@ class PutsNoRecord(Attempt):
     """Leaves the record out of its transaction, but not out of its event."""
 
     def changes(self, found, group):
-        records = set(map(self.keys.record, group.changed))
-        return [each for each in super().changes(found, group) if each.request_put.key.decode() not in records]
+        records = [putting(self.keys.record(path), str(group.records[path])) for path in group.changed]
+        return [each for each in super().changes(found, group) if each not in records]
 
 
 def a_record_that_was_put_back(store):

@@ -1,7 +1,7 @@
 """What is read of members: by one, unless that is behind."""
 import unittest
 
-import here  # noqa: F401
+from here import parsed
 from grove_etcd.members import MOST_OPERATIONS, Members
 from grove_etcd.wire import Found, reading
 
@@ -12,7 +12,7 @@ class SideBySide(unittest.TestCase):
         self.revisions = iter([5, 7])
 
         def found_by_some(reads):
-            self.asked.append([read.request_range.serializable for read in reads])
+            self.asked.append([parsed(read).request_range.serializable for read in reads])
             return Found(next(self.revisions))
 
         self.members.found_by_some = found_by_some

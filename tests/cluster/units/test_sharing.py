@@ -34,8 +34,8 @@ class Taken(unittest.TestCase):
     def test_one_that_is_large_goes_alone(self):
         most = part("b", guards=MOST_SHARED)
         self.assertEqual(self.taken(part("a"), most, part("c", guards=MOST_SHARED, inner=1)), [True, True, False])
-        long = part("b", value="x" * (MOST_BYTES // 2))
-        self.assertEqual(self.taken(long, part("c", value=long.changes[0].request_put.value.decode())), [True, False])
+        long = "x" * (MOST_BYTES // 2)
+        self.assertEqual(self.taken(part("b", value=long), part("c", value=long)), [True, False])
 
 
 class Member:

@@ -1,7 +1,7 @@
 """Watches, by a member whose answers are given."""
 import unittest
 
-import here  # noqa: F401
+from here import parsed
 from grove_etcd import etcdrpc
 from grove_etcd.members import Members
 from grove_etcd.waiting import Watched, changes, wait
@@ -51,7 +51,7 @@ class Watches(unittest.TestCase):
         member = Member(12, [("a", "1", 5), ("b", "2", 11)], ("b", "3", 13))
         told = list(changes(member, Watched("a", "c"), 9, 1))
         self.assertEqual(told, [Change("b", "2", 11), Change("b", "3", 13)])
-        watch, present = member.asked_for
+        watch, present = member.asked_for[0], etcdrpc.RangeRequest.FromString(member.asked_for[1])
         self.assertEqual((watch.start_revision, present.serializable, present.min_mod_revision), (0, True, 10))
 
     def test_a_key_that_is_gone_is_told(self):
@@ -73,7 +73,7 @@ class Watches(unittest.TestCase):
         for revision, wanted in ((8, [True]), (11, [True, False])):
             told_before = len(told)
             found = members.read_since([reading("a")], revision)
-            self.assertEqual([reads[0].request_range.serializable for reads in told[told_before:]], wanted)
+            self.assertEqual([parsed(reads[0]).request_range.serializable for reads in told[told_before:]], wanted)
             self.assertEqual(found.revision, 7 + len(told))
 
 
