@@ -32,13 +32,15 @@ from .sharing import Commits, Part
 from .signs import PATIENCE, Abandoned, Signs, Stills
 from .turns import FOREVER, WOKEN_SECONDS, Turns
 from .waiting import Watched, wait
-from .wire import Change, Done, Found, Guard, Operation, choosing, deleting, other_than, putting, unchanged
+from .wire import Change, Done, Found, Guard, Operation, choosing, deleting, other_than, putting, reading, unchanged
 
 # Does the work of an access while its node is held. It is called with the access, the record that it finds, and a token
 # that is the same for each try at this access, and differs from that of any other access.
 Work = Callable[[Access, int, str], None]
 # As long as this a pause lasts at most until it is looked whether the worker is to end.
 LONGEST_NAP_SECONDS = 0.5
+# For how many moments a job that waits keeps its turn, as long as its node changes hands in each.
+MOMENTS = 2
 # What is said of a worker that was lost while there was work for it.
 LOST = "its worker ended, or gave no sign of life"
 
@@ -575,12 +577,19 @@ class Attempt:
         return woken() if woken is not None else self.park(found, path, before)
 
     def woken_soon(self, found: Seen, path: str, before: str | None) -> Callable[[], Seen | None] | None:
-        """Waits for a moment, in which the job keeps its turn; gives how it is then to be had, if it is woken."""
-        seconds = self.means.keeps_turn()
-        if not seconds:
-            return None
-        with self.means.signs.during():
-            return self.wait_once(found, path, before, seconds)
+        """Waits for a moment, in which the job keeps its turn, and for another one if the node has changed hands in it;
+        gives how it is then to be had, if it is woken."""
+        seconds, owner = self.means.keeps_turn(), self.keys.owner(path)
+        hands = found.found.revision_of(owner)
+        for _ in range(MOMENTS if seconds else 0):
+            with self.means.signs.during():
+                came = self.wait_once(found, path, before, seconds)
+            if came is not None or self.means.stopping:
+                return came
+            last, hands = hands, self.members.read_since([reading(owner)], hands).revision_of(owner)
+            if hands == last:
+                break
+        return None
 
     def park(self, found: Seen, path: str, before: str | None) -> Seen | None:
         """The worker's other jobs go on while this one waits. If they all go on once it is woken, it is left for
