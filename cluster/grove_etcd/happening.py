@@ -19,7 +19,7 @@ from .weights import Weight
 from .wire import Entry, reading
 
 # Of jobs that were put lately, and are kept until they begin; and of the bytes of all their texts.
-MOST_RECENT, MOST_BYTES = 4096, 2**23
+MOST_RECENT, MOST_BYTES = 16384, 2**23
 # Of epochs that are being forgotten.
 MOST_GONE = 64
 

@@ -35,6 +35,8 @@ from .wire import (
 MOST_OPERATIONS = 128
 # Of transactions within one that have few operations.
 MOST_WIDE = 64
+# Of transactions that only read, and are on their way at once.
+MOST_SIDE_BY_SIDE = 8
 # Keys of one answer.
 PAGE = 2000
 # For how long one member is waited for, and for how long a call is repeated.
@@ -104,6 +106,8 @@ class Member:
 
     def transact_all(self, requests: list[Request], seconds: float, metadata: Any) -> list[Any]:
         """Several transactions, side by side."""
+        if self.is_brief:
+            return [self.transact(request, seconds, metadata=metadata) for request in requests]
         calls = [self.transact.future(request, seconds, metadata=metadata) for request in requests[1:]]
         first = [self.transact(request, seconds, metadata=metadata) for request in requests[:1]]
         return [*first, *(call.result() for call in calls)]
@@ -201,10 +205,10 @@ class Members:
         return found if found.revision >= revision else self.read(reads)
 
     def read_all(self, reads: Sequence[Operation], revision: int = 0) -> Found:
-        """Any number of reads; if they all name this revision, at once."""
-        whole = Found(revision)
-        for start in range(0, len(reads), MOST_OPERATIONS):
-            whole.entries.update(self.read(list(reads[start : start + MOST_OPERATIONS])).entries)
+        """Any number of reads, some transactions side by side; if they all name this revision, at once."""
+        whole, size = Found(revision), MOST_SIDE_BY_SIDE * MOST_OPERATIONS
+        for start in range(0, len(reads), size):
+            whole.entries.update(self.found_by_some(reads[start : start + size]).entries)
         return whole
 
     def read_side_by_side(self, reads: Sequence[Operation], since: int = 0) -> Found:
