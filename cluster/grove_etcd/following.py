@@ -30,7 +30,7 @@ from .wire import putting
 # revision is read, in seconds.
 EVERY_SECONDS, KEEP_SECONDS, LOOK_SECONDS = 10.0, 1.0, 0.5
 # While more has happened than was followed yet, no epoch is closed, unless so many jobs have ended.
-MOST_ENDED = 8192
+MOST_ENDED = 12288
 
 
 @dataclass(frozen=True)
