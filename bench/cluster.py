@@ -2,7 +2,7 @@
 """Times plans on etcd clusters that it starts on loopback. Needs what tests/cluster/run needs.
 
     usage: bench/cluster.py [--grove PROGRAM] [--runs N] [throughput] [contention] [chain] [root] [submitting] [large]
-                                                                                        (default: all)
+                            [status] [follow]                                           (default: all)
 
 throughput: 200 jobs of one `add`, each at a leaf of its own, by 1, 4 and 16 workers on one and on three members.
 contention: 64 jobs of 4 accesses of 5 ms each by 1, 4 and 16 workers on three members; by settled plans, by plans
@@ -13,7 +13,9 @@ one from the root, from one of four nodes below it and from one of four below th
 by 1, 4 and 16 workers. submitting: 2,000 jobs of one `add` at random leaves, submitted by 4 processes, 20 or 500 in a
 call, while 4 workers do them. All these are done RUNS times, all cases in turn; the median is printed, with the least
 and the most in brackets. large: trees of 1,111,111 and of some 1,000 nodes are loaded, and the same jobs of 8 accesses
-planned, submitted and run in each.
+planned, submitted and run in each. status: what `status` takes by the clock, 15 times, at 1,111,111 nodes and 100,000
+jobs that nobody has begun. follow: how far `audit --follow --forget` falls behind 10,000 jobs of one `add`, which 4
+processes submit as fast as they can and 4 workers do, and its memory.
 """
 import argparse
 import itertools
@@ -23,6 +25,7 @@ import subprocess
 import sys
 import threading
 import time
+import urllib.request
 from collections import Counter
 from pathlib import Path
 from random import Random
@@ -30,6 +33,7 @@ from random import Random
 TOP = Path(__file__).resolve().parents[1]
 sys.path.insert(0, str(TOP / "tests/cluster"))
 from members_at_hand import Cluster  # noqa: E402
+from server import HOST, free_port  # noqa: E402
 
 from grove_etcd.auditing import audit  # noqa: E402
 from grove_etcd.groups import answer  # noqa: E402
@@ -409,7 +413,60 @@ def time_jobs(members, keys, lists, grove):
     print(f"  a job, median of {len(lists)}: planned {planned}, submitted {submitted}, run {ran} ms", flush=True)
 
 
-KINDS = {kind.__name__: kind for kind in (throughput, contention, chain, root, submitting, large)}
+def status(given):
+    rows, paths = rows_of_tens(6)
+    random, times = Random("status"), []
+    chosen = [random.choice(paths) for _ in range(100_000)]
+    with Cluster(3) as cluster:
+        members, keys = cluster.members(), Keys("grove")
+        load(members, keys, rows)
+        submit_planned(members, keys, [[["add", path, 1]] for path in chosen], map(leaf_plan, chosen))
+        for _ in range(15):
+            begun = time.monotonic()
+            words = [TOP / "cluster/status", "--members", cluster.addresses]
+            told = subprocess.run(words, check=True, capture_output=True, text=True).stdout
+            times.append((time.monotonic() - begun) * 1000)
+    print(f"{len(rows):,} nodes: status takes {spread(times)} ms; it says {told.strip()}", flush=True)
+
+
+def follow(given):
+    with Cluster(3) as cluster:
+        members, keys, random = cluster.members(), Keys("follow"), Random("follow")
+        load(members, keys, rows_below_root(MANY_LEAVES, 50))
+        lists = [[["add", random.choice(MANY_LEAVES), 1]] for _ in range(10_000)]
+        port = free_port()
+        words = ["--members", cluster.addresses, "--store", keys.store, "--grove", given.grove, "--metrics", str(port)]
+        command = [TOP / "cluster/audit", *words, "--follow", "--forget"]
+        with subprocess.Popen(command, stdout=subprocess.PIPE, text=True) as follower:
+            follower.stdout.readline()
+            threading.Thread(target=follower.stdout.read, daemon=True).start()
+            workers = [start("lasting", cluster.addresses, keys.store, len(lists)) for _ in range(4)]
+            submitters = [start("submitter", cluster.addresses, keys.store, given.grove, 100) for _ in range(4)]
+            begin(workers, [None] * 4)
+            begun = begin(submitters, [lists[number::4] for number in range(4)])
+            behind, memory = look_at(follower, port, lambda: not members.count(keys.whole("p"), is_at_hand=True))
+            done = max(json.loads(each.communicate()[0])["last"] for each in workers) - begun
+            follower.terminate()
+    rate = f"{len(lists) / done:,.0f} jobs a second"
+    print(f"{rate}: behind by {behind:.1f} s at most; {memory[0]} MB, then at most {max(memory)}", flush=True)
+
+
+def look_at(follower, port, has_ended):
+    """How many seconds the follower was behind at most, and its memory in MB, ten times a second."""
+    behind, memory, has_begun = 0.0, [], False
+    while not (has_begun and has_ended()):
+        has_begun = has_begun or not has_ended()
+        with urllib.request.urlopen(f"http://{HOST}:{port}/metrics") as page:
+            lines = page.read().decode().splitlines()
+        told = dict(line.split() for line in lines if not line.startswith("#"))
+        behind = max(behind, float(told["grove_audit_behind_seconds"]))
+        resident = Path(f"/proc/{follower.pid}/status").read_text(encoding="utf-8").partition("VmRSS:")[2].split()[0]
+        memory.append(int(resident) // 1024)
+        time.sleep(0.1)
+    return behind, memory
+
+
+KINDS = {kind.__name__: kind for kind in (throughput, contention, chain, root, submitting, large, status, follow)}
 PARTS = {"worker": be_worker, "submitter": be_submitter, "lasting": be_lasting}
 
 

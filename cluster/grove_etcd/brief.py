@@ -1,8 +1,8 @@
 """A call of gRPC by the standard library alone, for a program that is over before gRPC would be loaded.
 
 Each call has a connection of its own, without TLS. Of HTTP/2 and gRPC only what one small request needs is here: no
-header of an answer is read, since a call that fails has no message. Whatever comes but a whole message is no answer, and
-then the call is made by gRPC, which says what is wrong.
+header of an answer is read, since a call that fails has no message. Whatever comes but a whole message is no answer.
+Then the call is made by gRPC, which says what is wrong.
 """
 from __future__ import annotations
 
