@@ -1,21 +1,21 @@
 use std::borrow::Borrow;
 use std::collections::HashMap;
-use std::hash::Hash;
+use std::hash::{BuildHasher, Hash, RandomState};
 
 /// No more steps are kept of plans of a kind.
 pub(crate) const MOST_STEPS: usize = 1_048_576;
 
 /// What was made for some keys. So many are kept, with so many steps; then all are forgotten.
-pub(crate) struct Bounded<K, V> {
-    of: HashMap<K, V>,
+pub(crate) struct Bounded<K, V, S = RandomState> {
+    of: HashMap<K, V, S>,
     steps: usize,
     most: usize,
 }
 
-impl<K: Hash + Eq, V> Bounded<K, V> {
-    pub(crate) fn new(most: usize) -> Bounded<K, V> {
+impl<K: Hash + Eq, V, S: BuildHasher + Default> Bounded<K, V, S> {
+    pub(crate) fn new(most: usize) -> Bounded<K, V, S> {
         Bounded {
-            of: HashMap::new(),
+            of: HashMap::default(),
             steps: 0,
             most,
         }
@@ -60,7 +60,7 @@ mod tests {
 
     #[test]
     fn so_many_are_kept() {
-        let mut kept = Bounded::new(MOST);
+        let mut kept: Bounded<_, _> = Bounded::new(MOST);
         for key in 0..MOST {
             kept.keep(key, key, 0);
             assert_eq!((kept.get(&0), kept.get(&key)), (Some(&0), Some(&key)));
@@ -72,7 +72,7 @@ mod tests {
 
     #[test]
     fn so_many_steps_are_kept() {
-        let mut kept = Bounded::new(MOST);
+        let mut kept: Bounded<_, _> = Bounded::new(MOST);
         for key in 0..3 {
             kept.keep(key, (), MOST_STEPS);
             assert!(kept.get(&key).is_some());

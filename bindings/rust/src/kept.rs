@@ -2,12 +2,12 @@ use crate::access::Access;
 use crate::bounded::Bounded;
 use crate::error::Error;
 use crate::library::KeptTree;
-use crate::nodes::Nodes;
+use crate::nodes::{Known, Nodes};
 use crate::plan::Plan;
 use crate::target::Target;
 use crate::unpoisoned;
 use std::fmt;
-use std::hash::{Hash, Hasher};
+use std::hash::{BuildHasherDefault, Hash, Hasher};
 use std::sync::Mutex;
 
 /// So many plans are kept of a tree; then all are forgotten.
@@ -18,7 +18,7 @@ const MOST_PLANS: usize = 4_096;
 pub(crate) struct Kept {
     whole: Mutex<Whole>,
     /// By a hash of the paths and the lengths of their lists.
-    plans: Mutex<Bounded<u64, KeptPlan>>,
+    plans: Mutex<Bounded<u64, KeptPlan, BuildHasherDefault<Known>>>,
 }
 
 /// A plan with its list.

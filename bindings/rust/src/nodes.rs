@@ -60,28 +60,47 @@ impl Nodes {
 }
 
 /// A hash of a text that grows: that of a path is a step on the way to those of all below it. So a path of a million
-/// names is read once for all its nodes. (It is FNV-1a.)
-#[derive(Clone, Copy)]
+/// names is read once for all its nodes. (It is a polynomial of the bytes, of which eight are added at a time.)
+#[derive(Clone, Copy, Default)]
 struct Rolling(u64);
 
 impl Rolling {
+    const FACTOR: u64 = 0x9e37_79b9_7f4a_7c15;
+    /// What each of eight bytes is multiplied by, and what comes before them.
+    const POWERS: [u64; 8] = [
+        Rolling::power(7),
+        Rolling::power(6),
+        Rolling::power(5),
+        Rolling::power(4),
+        Rolling::power(3),
+        Rolling::power(2),
+        Rolling::power(1),
+        1,
+    ];
+    const EIGHTH: u64 = Rolling::power(8);
+
+    const fn power(exponent: u32) -> u64 {
+        Rolling::FACTOR.wrapping_pow(exponent)
+    }
+
     #[inline]
     fn over(self, text: &str) -> Rolling {
-        let step =
-            |hash: u64, byte: u8| (hash ^ u64::from(byte)).wrapping_mul(0x0000_0100_0000_01b3);
-        Rolling(text.bytes().fold(self.0, step))
+        let parts = text.as_bytes().chunks_exact(8);
+        let rest = parts.remainder().iter();
+        let hash = parts.fold(self.0, |hash, part| {
+            let each = part.iter().zip(Rolling::POWERS);
+            let each = each.map(|(&byte, power)| power.wrapping_mul(byte.into()));
+            each.fold(hash.wrapping_mul(Rolling::EIGHTH), u64::wrapping_add)
+        });
+        Rolling(rest.fold(hash, |hash, &byte| {
+            hash.wrapping_mul(Rolling::FACTOR).wrapping_add(byte.into())
+        }))
     }
 
     /// The hash, of which all bits depend on all.
     fn hash(self) -> u64 {
         let mixed = (self.0 ^ self.0 >> 32).wrapping_mul(0xd6e8_feb8_6659_fd93);
         mixed ^ mixed >> 32
-    }
-}
-
-impl Default for Rolling {
-    fn default() -> Rolling {
-        Rolling(0xcbf2_9ce4_8422_2325)
     }
 }
 
@@ -112,7 +131,7 @@ impl Numbers {
 
 /// What is hashed already.
 #[derive(Default)]
-struct Known(u64);
+pub(crate) struct Known(u64);
 
 impl Hasher for Known {
     fn finish(&self) -> u64 {
