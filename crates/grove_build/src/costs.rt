@@ -1,4 +1,3 @@
-use crate::buckets::Buckets;
 use grove_span::SpanRow;
 use grove_tree::NoMemory;
 use std::alloc::Global;
@@ -11,29 +10,24 @@ use std::alloc::Global;
 #[derive(Drop)]
 pub struct Costs {
     rows: Vec<RowCost>,
-    /// What the children of all rows tell, those of each row together, and the latest of them first.
-    told: Vec<Fall>,
-    /// Where those of each row stand.
-    buckets: Buckets,
+    /// The children of each row, the one first that may be locked latest: at the place of a row its next sibling, and
+    /// at that place behind all rows its first child.
+    links: Vec<usize>,
 }
+
+/// No row has this place.
+const NOBODY: usize = usize::MAX;
 
 /// By how much a row's cost falls where its lock goes a gap later, and the last gap up to which it does.
 #[derive(Clone, Copy)]
 pub struct Fall {
-    pub latest: usize,
+    pub latest: u32,
     pub by: i64,
-}
-
-impl Fall {
-    const NONE: Fall = Fall { latest: 0, by: 0 };
 }
 
 /// What a row costs.
 #[derive(Clone, Copy)]
 pub struct RowCost {
-    pub weight: i64,
-    /// The gap after its own last access, where it has one.
-    earliest: Option<usize>,
     pub fall: Fall,
     /// By how much its children's costs fall together.
     pub below: i64,
@@ -41,19 +35,15 @@ pub struct RowCost {
 
 impl RowCost {
     const NONE: RowCost = RowCost {
-        weight: 0,
-        earliest: None,
-        fall: Fall::NONE,
+        fall: Fall { latest: 0, by: 0 },
         below: 0,
     };
 
-    fn new(row: &SpanRow, weight: i64) -> RowCost {
+    fn new(row: &SpanRow) -> RowCost {
         RowCost {
-            weight,
-            earliest: row.last.map(|last| last as usize + 1),
             fall: Fall {
-                latest: row.first.map_or(usize::MAX, |first| first as usize),
-                by: weight,
+                latest: row.first.unwrap_or(u32::MAX),
+                by: i64::from(row.weight),
             },
             below: 0,
         }
@@ -62,66 +52,39 @@ impl RowCost {
     /// Adds a child.
     fn add(&mut self, child: Fall) {
         self.fall.latest = self.fall.latest.min(child.latest);
-        self.below = self.below.saturating_add(child.by);
+        self.below = self.below.wrapping_add(child.by);
     }
 
     /// What the row tells its parent when all its children are added. The release of a row without accesses goes with
     /// its lock, or stays and lets its children go.
-    fn settle(&mut self) -> Fall {
-        if self.earliest.is_none() {
-            self.fall.by = self.weight.min(self.below);
+    fn settle(&mut self, row: &SpanRow) -> Fall {
+        if row.last.is_none() {
+            self.fall.by = self.fall.by.min(self.below);
         }
         self.fall
-    }
-
-    /// The first gap from the lock on at which the cost of the release rises, and by how much it rises there. It rises
-    /// by the row's weight less the falls of the children that may be locked later.
-    pub fn release(self, children: &[Fall], lock: usize) -> Release {
-        let least = lock.max(self.earliest.unwrap_or(0));
-        let mut gap = usize::MAX;
-        let mut behind = self.weight;
-        let mut rise = self.weight;
-        for child in children {
-            if child.latest <= least {
-                break;
-            }
-            if child.latest < gap {
-                gap = child.latest;
-                behind = rise;
-            }
-            rise = rise.saturating_sub(child.by);
-            if rise <= 0 {
-                return Release { gap, rise: behind };
-            }
-        }
-        Release { gap: least, rise }
     }
 }
 
 /// Where a row is released best, and by how much its cost rises behind.
 #[derive(Clone, Copy)]
 pub struct Release {
-    pub gap: usize,
+    pub gap: u32,
     pub rise: i64,
 }
 
 impl Costs {
-    /// Adds up the falls from the last row to the first. A row's release needs its weight.
-    pub fn new(
-        alloc: Global,
-        rows: &[SpanRow],
-        needs: &[i64],
-        accesses: usize,
-    ) -> Result<Costs, NoMemory> {
-        let mut costs = costs_of(alloc, rows, needs)?;
-        add_up(rows, &mut costs);
-        let order = order_of(alloc, &costs, accesses)?;
-        let (told, buckets) = told_of(alloc, rows, &costs, &order)?;
-        Ok(Costs {
-            rows: costs,
-            told,
-            buckets,
-        })
+    /// Adds up the falls from the last row to the first.
+    pub fn new(alloc: Global, rows: &[SpanRow]) -> Result<Costs, NoMemory> {
+        let mut all = Vec::with_capacity(alloc, rows.len())?;
+        for row in rows {
+            all.push(RowCost::new(row))?;
+        }
+        let links = vec![in alloc; NOBODY; rows.len().saturating_mul(2)]?;
+        let mut costs = Costs { rows: all, links };
+        for (k, row) in rows.iter().enumerate().rev() {
+            costs.tell(k, row);
+        }
+        Ok(costs)
     }
 
     /// What the row costs.
@@ -132,86 +95,76 @@ impl Costs {
         }
     }
 
-    /// What its children tell the row, the latest of them first.
-    pub fn told(&self, k: usize) -> &[Fall] {
-        match self.told.get(self.buckets.of(k)) {
-            Some(told) => told,
-            None => &[],
-        }
-    }
-}
-
-/// What each row costs alone.
-fn costs_of(alloc: Global, rows: &[SpanRow], needs: &[i64]) -> Result<Vec<RowCost>, NoMemory> {
-    let mut costs = Vec::with_capacity(alloc, rows.len())?;
-    for (k, row) in rows.iter().enumerate() {
-        costs.push(RowCost::new(row, weight_at(needs, k)))?;
-    }
-    Ok(costs)
-}
-
-/// Adds what each row costs to what its parent does.
-fn add_up(rows: &[SpanRow], costs: &mut [RowCost]) {
-    for (k, row) in rows.iter().enumerate().rev() {
-        let fall = match costs.get_mut(k) {
-            Some(cost) => cost.settle(),
-            None => Fall::NONE,
+    /// Tells the parent what a row costs, all of whose children have told it theirs.
+    fn tell(&mut self, k: usize, row: &SpanRow) {
+        let fall = match self.rows.get_mut(k) {
+            Some(cost) => cost.settle(row),
+            None => return,
         };
         if let Some(parent) = row.parent
-            && let Some(cost) = costs.get_mut(parent as usize)
+            && let Some(above) = self.rows.get_mut(parent as usize)
         {
-            cost.add(fall);
+            above.add(fall);
+            self.link(k, parent as usize, fall.latest);
         }
     }
-}
 
-/// The rows, those first that may be locked latest.
-fn order_of(alloc: Global, costs: &[RowCost], accesses: usize) -> Result<Vec<usize>, NoMemory> {
-    let mut buckets = Buckets::new(alloc, accesses.saturating_add(1))?;
-    for cost in costs {
-        buckets.count(accesses.saturating_sub(cost.fall.latest));
-    }
-    buckets.begin();
-    let mut order = vec![in alloc; 0usize; costs.len()]?;
-    for (k, cost) in costs.iter().enumerate() {
-        let index = buckets.index(accesses.saturating_sub(cost.fall.latest));
-        if let Some(place) = order.get_mut(index) {
-            *place = k;
+    /// Links a row with its parent, behind the children that may be locked later.
+    fn link(&mut self, k: usize, parent: usize, latest: u32) {
+        let mut place = parent.saturating_add(self.rows.len());
+        for _ in 0..self.rows.len() {
+            let next = self.linked(place);
+            if self.of(next).fall.latest <= latest {
+                break;
+            }
+            place = next;
         }
+        let next = self.linked(place);
+        self.set_link(k, next);
+        self.set_link(place, k);
     }
-    Ok(order)
-}
 
-/// What the children of each row tell it, in this order, and the bucket of each row.
-fn told_of(
-    alloc: Global,
-    rows: &[SpanRow],
-    costs: &[RowCost],
-    order: &[usize],
-) -> Result<(Vec<Fall>, Buckets), NoMemory> {
-    let mut buckets = Buckets::new(alloc, rows.len())?;
-    for row in rows {
-        if let Some(parent) = row.parent {
-            buckets.count(parent as usize);
+    fn linked(&self, place: usize) -> usize {
+        match self.links.get(place) {
+            Some(link) => *link,
+            None => NOBODY,
         }
     }
-    buckets.begin();
-    let mut told = vec![in alloc; Fall::NONE; rows.len()]?;
-    for k in order {
-        if let Some(row) = rows.get(*k)
-            && let Some(parent) = row.parent
-            && let Some(cost) = costs.get(*k)
-            && let Some(place) = told.get_mut(buckets.index(parent as usize))
-        {
-            *place = cost.fall;
-        }
-    }
-    Ok((told, buckets))
-}
 
-fn weight_at(needs: &[i64], k: usize) -> i64 {
-    needs
-        .get(k.saturating_mul(2).saturating_add(1))
-        .copied()
-        .unwrap_or(0)
+    fn set_link(&mut self, place: usize, to: usize) {
+        if let Some(link) = self.links.get_mut(place) {
+            *link = to;
+        }
+    }
+
+    /// The first gap from the lock on at which the cost of the row's release rises, and by how much it rises there. It
+    /// rises by the row's weight less the falls of the children that may be locked later.
+    pub fn release(&self, k: usize, row: &SpanRow, lock: u32) -> Release {
+        let earliest = row.last.map_or(0, |last| last.saturating_add(1));
+        let least = lock.max(earliest);
+        let mut rise = i64::from(row.weight);
+        let mut best = Release {
+            gap: u32::MAX,
+            rise,
+        };
+        let mut place = k.saturating_add(self.rows.len());
+        for _ in 0..self.rows.len() {
+            place = self.linked(place);
+            let child = self.of(place).fall;
+            if child.latest <= least {
+                break;
+            }
+            if child.latest < best.gap {
+                best = Release {
+                    gap: child.latest,
+                    rise,
+                };
+            }
+            rise = rise.wrapping_sub(child.by);
+            if rise <= 0 {
+                return best;
+            }
+        }
+        Release { gap: least, rise }
+    }
 }

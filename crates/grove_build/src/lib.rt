@@ -9,7 +9,6 @@ pub use planning::{Planned, plan};
 pub use targets::{Target, targets_of};
 
 mod batch;
-mod buckets;
 mod costs;
 mod flow_rows;
 mod jobs;

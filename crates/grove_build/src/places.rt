@@ -1,4 +1,4 @@
-ghost use Rattle.std.specs.Prelude.{◌≡◌, ◌<◌, ◌≤◌, ℕ, pos, ◌≤ℤ◌, length, map, slice_index, IfOk};
+ghost use Rattle.std.specs.Prelude.{◌≡◌, ◌<◌, ◌≤◌, ℕ, pos, ◌≤ℤ◌, length, map, slice_index, true, IfOk};
 ghost use borrow.Author.Differences.{up};
 ghost use Rattle.grove_access.specs.Lists.{lengths_of};
 ghost use Rattle.grove_flow.specs.Networks.{place};
@@ -43,8 +43,14 @@ pub fn gaps_of(alloc: Global, slots: &[u32], places: &[i64]) -> Result<Vec<u32>,
         → IsGap slots.now (place places.now v) (slice_index gaps.items v)) }
 {
     let mut gaps = Vec::with_capacity(alloc, places.len())?;
+    // Neighbouring rows are often locked in one gap, and released in one.
+    let mut guess = 0;
+    let mut latest = 0;
     for place in places {
-        gaps.push(gap_of(slots, slot_of(*place)))?;
+        let gap = gap_of(slots, slot_of(*place), guess);
+        guess = latest;
+        latest = gap;
+        gaps.push(gap)?;
     }
     Ok(gaps)
 }
@@ -59,19 +65,30 @@ fn slot_of(place: i64) -> u32
 }
 
 /// The gap before which there are so many slots. Where the accesses before it are a slot long each, it has that number.
-fn gap_of(slots: &[u32], before: u32) -> u32
+fn gap_of(slots: &[u32], before: u32, guess: u32) -> u32
     requires few { length slots.now ≤ 65 }
     requires rising { AreRising slots.now }
     requires between { (gap : ℕ) × (gap < length slots.now) × (slice_index slots.now gap ≡ before) }
     ensures within { result < length slots.now }
     ensures at { slice_index slots.now result ≡ before }
 {
-    let guess = before as usize;
-    if guess < slots.len() && slots[guess] == before {
+    if is_gap(slots, before, before) {
         return before;
+    }
+    if is_gap(slots, before, guess) {
+        return guess;
     }
     match slots.binary_search(&before) {
         Ok(gap) => gap as u32,
         Err(_) => unreachable!(),
     }
+}
+
+/// Are there so many slots before the gap?
+fn is_gap(slots: &[u32], before: u32, gap: u32) -> bool
+    ensures within { result ≡ true → gap < length slots.now }
+    ensures at { result ≡ true → slice_index slots.now gap ≡ before }
+{
+    let gap = gap as usize;
+    gap < slots.len() && slots[gap] == before
 }

@@ -6,12 +6,13 @@ use grove_span::SpanRow;
 use grove_tree::NoMemory;
 use std::alloc::Global;
 use std::cmp::Ordering;
+use std::mem::replace;
 
 /// Where a row is locked and released, and what these still have to send to its children.
 #[derive(Clone, Copy)]
 struct Stand {
-    lock: usize,
-    release: usize,
+    lock: u32,
+    release: u32,
     above: i64,
     held: i64,
 }
@@ -27,8 +28,7 @@ pub fn propose(
     rows: &[SpanRow],
     slots: &[u32],
 ) -> Result<Solution, NoMemory> {
-    let end = slots.len().saturating_sub(1);
-    let costs = Costs::new(alloc, rows, &network.needs, end)?;
+    let costs = Costs::new(alloc, rows)?;
     let mut solution = Solution {
         amounts: Vec::with_capacity(alloc, network.arcs.len())?,
         places: Vec::with_capacity(alloc, network.needs.len())?,
@@ -45,10 +45,9 @@ fn go_down(
     costs: &Costs,
     solution: &mut Solution,
 ) -> Result<(), NoMemory> {
-    let end = slots.len().saturating_sub(1);
     let mut stands: Vec<Stand> = Vec::with_capacity(alloc, rows.len())?;
     for (k, row) in rows.iter().enumerate() {
-        let (stand, flow) = stand_of(costs.of(k), costs.told(k), row, end, &mut stands);
+        let (stand, flow) = stand_of(costs, k, row, &mut stands);
         send(&mut solution.amounts, row, &flow)?;
         solution.places.push(slot_at(slots, stand.lock))?;
         solution.places.push(slot_at(slots, stand.release))?;
@@ -60,35 +59,30 @@ fn go_down(
 
 /// What a parent leaves to a row: between which gaps its lock stands, and what it gets and gives along their arcs.
 struct Share {
-    from: usize,
-    to: usize,
+    from: u32,
+    to: u32,
     above: i64,
     held: i64,
 }
 
 /// Where the row stands, and its row of the flow.
-fn stand_of(
-    cost: RowCost,
-    told: &[Fall],
-    row: &SpanRow,
-    end: usize,
-    stands: &mut [Stand],
-) -> (Stand, FlowRow) {
+fn stand_of(costs: &Costs, k: usize, row: &SpanRow, stands: &mut [Stand]) -> (Stand, FlowRow) {
+    let cost = costs.of(k);
     let Share {
         from,
         to,
         above,
         held,
-    } = share_of(cost.fall, row, end, stands);
+    } = share_of(cost.fall, row, stands);
     let lock = cost.fall.latest.min(to).max(from);
-    let Release { gap, rise } = cost.release(told, lock);
+    let Release { gap, rise } = costs.release(k, row, lock);
     let mut stand = Stand {
         lock,
         release: gap,
-        above: above.saturating_sub(held),
+        above: above.wrapping_sub(held),
         held: rise,
     };
-    let own = stand.send_own(cost);
+    let own = stand.send_own(cost, i64::from(row.weight));
     let flow = FlowRow {
         node: row.node,
         above: above.unsigned_abs(),
@@ -101,7 +95,7 @@ fn stand_of(
 }
 
 /// What the row's parent leaves to it. The topmost row has all gaps.
-fn share_of(fall: Fall, row: &SpanRow, end: usize, stands: &mut [Stand]) -> Share {
+fn share_of(fall: Fall, row: &SpanRow, stands: &mut [Stand]) -> Share {
     if let Some(parent) = row.parent
         && let Some(parent) = stands.get_mut(parent as usize)
     {
@@ -114,7 +108,7 @@ fn share_of(fall: Fall, row: &SpanRow, end: usize, stands: &mut [Stand]) -> Shar
     } else {
         Share {
             from: 0,
-            to: end,
+            to: u32::MAX,
             above: 0,
             held: 0,
         }
@@ -123,27 +117,24 @@ fn share_of(fall: Fall, row: &SpanRow, end: usize, stands: &mut [Stand]) -> Shar
 
 impl Stand {
     /// What the row's lock sends to its own release. What is left to each is for the children and the accesses.
-    fn send_own(&mut self, cost: RowCost) -> i64 {
-        let above = self.above.saturating_add(cost.weight);
+    fn send_own(&mut self, cost: RowCost, weight: i64) -> i64 {
+        let above = self.above.wrapping_add(weight);
         let mut own = 0;
         if self.lock == self.release {
-            own = cost.weight.saturating_sub(cost.below).max(0);
+            own = weight.wrapping_sub(cost.below).max(0);
             if self.lock < cost.fall.latest {
                 own = own.max(above);
             }
         }
-        self.above = above.saturating_sub(own);
-        self.held = self.held.saturating_sub(own);
+        self.above = above.wrapping_sub(own);
+        self.held = self.held.wrapping_sub(own);
         own
     }
 
     /// What the row's lock sends to the base: all that is left, where the first access comes next.
     fn send_first(&mut self, row: &SpanRow) -> u64 {
         match row.first {
-            Some(first) if first as usize == self.lock => {
-                let left = self.above;
-                take_up_to(&mut self.above, left).unsigned_abs()
-            }
+            Some(first) if first == self.lock => replace(&mut self.above, 0).unsigned_abs(),
             _ => 0,
         }
     }
@@ -151,9 +142,8 @@ impl Stand {
     /// What the base sends to the row's release: all that it lacks, where the last access is just over.
     fn send_last(&mut self, row: &SpanRow) -> u64 {
         match row.last {
-            Some(last) if last as usize + 1 == self.release => {
-                let left = self.held;
-                take_up_to(&mut self.held, left).unsigned_abs()
+            Some(last) if last.saturating_add(1) == self.release => {
+                replace(&mut self.held, 0).unsigned_abs()
             }
             _ => 0,
         }
@@ -164,8 +154,7 @@ impl Stand {
         if child.latest > self.lock {
             return 0;
         }
-        let left = self.above;
-        take_up_to(&mut self.above, left)
+        replace(&mut self.above, 0)
     }
 
     /// What the child's lock sends to the row's release, which keeps it from where it could be.
@@ -181,7 +170,7 @@ impl Stand {
 /// Takes as much as is left, and no more than `most`.
 fn take_up_to(left: &mut i64, most: i64) -> i64 {
     let more = most.min(*left);
-    *left = left.saturating_sub(more);
+    *left = left.wrapping_sub(more);
     more
 }
 
@@ -207,8 +196,8 @@ fn send_along(
     Ok(())
 }
 
-fn slot_at(slots: &[u32], gap: usize) -> i64 {
-    match slots.get(gap) {
+fn slot_at(slots: &[u32], gap: u32) -> i64 {
+    match slots.get(gap as usize) {
         Some(slot) => i64::from(*slot),
         None => 0,
     }

@@ -30,7 +30,12 @@ pub fn latest(
         places.items) }
 {
     let mut places = highest(alloc, &solution.places, top)?;
-    settle(&network.arcs, &solution.amounts, &mut places);
+    settle(
+        &network.arcs,
+        &solution.amounts,
+        &solution.places,
+        &mut places,
+    );
     Ok(places)
 }
 
@@ -95,19 +100,26 @@ impl Way {
     }
 }
 
-// Lowers the places until every arc is lawful, by sweeps backward and forward in turn.
-fn settle(arcs: &[Arc], amounts: &[u64], places: &mut [i64])
+// Lowers the places until every arc is lawful, by sweeps backward and forward in turn. The known places are so already.
+fn settle(arcs: &[Arc], amounts: &[u64], known: &[i64], places: &mut [i64])
     requires arcs { AreArcsOf arcs.now (length places.old) }
     requires amounts { length amounts.now ≡ length arcs.now }
     requires floor { HaveFloor arcs.now amounts.now places.old }
     requires capped { AreCapped places.old }
+    requires known { AreLawful arcs.now amounts.now known.now }
     ensures lawful { AreLawful arcs.now amounts.now places.new }
     ensures kept { AreKept arcs.now amounts.now places.old places.new }
 {
     let mut way = Way::Backward;
-    while sweep(arcs, amounts, places, way) {
+    while !are_equal(places, known) && sweep(arcs, amounts, places, way) {
         way = way.turned();
     }
+}
+
+fn are_equal(places: &[i64], others: &[i64]) -> bool
+    ensures { result ≡ true → places.now ≡ others.now }
+{
+    places == others
 }
 
 // Lowers what a look at each arc in turn lowers, and says whether that was anything.

@@ -14,6 +14,9 @@ use grove_access::AccessList;
 use grove_tree::{NoMemory, Node, Tree, WayNode};
 use std::alloc::Global;
 
+/// A tree is at most 32 deep.
+const MOST_ON_A_WAY: usize = 33;
+
 /// The rows of the forced nodes with numbers below the next, ascending, and these numbers.
 #[derive(Drop)]
 struct Listed {
@@ -176,9 +179,13 @@ pub fn forced_rows(
     ensures accesses { IfOk result (λ rows. HaveAccesses (nodes_of list.now) (lengths_of list.now) rows.items) }
 {
     // That the rows are a tree's is told with their number.
-    let _nodes = tree.len();
-    let rows = Vec::with_capacity(alloc, targets.len())?;
-    let numbers = Vec::with_capacity(alloc, targets.len())?;
+    let nodes = tree.len();
+    let most = targets
+        .len()
+        .saturating_mul(MOST_ON_A_WAY)
+        .min(nodes as usize);
+    let rows = Vec::with_capacity(alloc, most)?;
+    let numbers = Vec::with_capacity(alloc, most)?;
     let mut listed = Listed {
         rows,
         numbers,

@@ -20,8 +20,8 @@ slot_of-requires-clause-high c =
     let high : z ≤ℤ pos 4294967295 = in_gap.1 in
     omega (arith, ints)
 
-pub gap_of-requires-clause-between : goal.gap_of-requires-clause-between
-gap_of-requires-clause-between c =
+pub gap_of-gap-requires-clause-between : goal.gap_of-gap-requires-clause-between
+gap_of-gap-requires-clause-between c =
     let z : ℤ = get_or c.args.places.now c.loop-place.place-index (pos 0) in
     let in_gap = gap_slots c.args.slots.now z c.type_inv.slots (c.requires.between c.loop-place.place-index) in
     let low : pos 0 ≤ℤ z = in_gap.0 in
@@ -38,8 +38,8 @@ loop-place-preserved c =
     let kept : to_z w64 (of_z w64 z) ≡ z = omega (arith, ints) in
     let size : length c.loop-place.gaps.items ≡ c.loop-place.place-index = c.loop-place.invariant.size in
     rw c.in_ok-push.ensures.items record {
-      size = omega (arith, length-append c.loop-place.gaps.items (c.gap_of.result ∷ []));
-      gaps = gaps_more c.args.slots.now c.args.places.now c.loop-place.gaps.items c.loop-place.place-index c.gap_of.result size
-          c.loop-place.invariant.gaps (c.requires.between c.loop-place.place-index) c.gap_of.ensures.within
-          (c.gap_of.ensures.at ∙ (c.slot_of.ensures ∙ ap up kept));
+      size = omega (arith, length-append c.loop-place.gaps.items (c.gap_of-gap.result ∷ []));
+      gaps = gaps_more c.args.slots.now c.args.places.now c.loop-place.gaps.items c.loop-place.place-index c.gap_of-gap.result size
+          c.loop-place.invariant.gaps (c.requires.between c.loop-place.place-index) c.gap_of-gap.ensures.within
+          (c.gap_of-gap.ensures.at ∙ (c.slot_of.ensures ∙ ap up kept));
     }
