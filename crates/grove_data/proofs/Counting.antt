@@ -12,8 +12,8 @@ use Rattle.std.proofs.lemmas.List.{map_more, length-map, map-append}
 use Rattle.std.proofs.Math.ListN.{get_or-map}
 use Rattle.std.proofs.lemmas.List.Elements.{All-more, All-head, All-tail, All-map, All-from_get_or}
 use Rattle.std.proofs.Math.Facts.{sfits_to_z}
-use Rattle.grove_tree.specs.Trees.{Rows, parent_of, name_of, weight_of}
-use Rattle.grove_tree.specs.Weights.{unweighed}
+use Rattle.grove_tree.specs.Trees.{Rows, parent_of, name_of}
+use Rattle.grove_tree.specs.Weights.{unweighed, weights_of}
 use Rattle.grove_tree.specs.BuiltRows.{rows_of}
 use Rattle.grove_tree.specs.declared.fault.TreeFault.{TreeFault}
 use Rattle.grove_tree.specs.declared.fault.TreeFault.TheVariants.{Empty, TooMany, BadParent, TooDeep, BadName}
@@ -21,7 +21,7 @@ use Rattle.grove_tree.specs.declared.fault.TreeFault.TheVariants.{TwiceNamed, Ba
 use Rattle.grove_tree.specs.declared.row.Row.{Row}
 use Rattle.grove_effects.specs.Snapshots.{Names, named_of, names_of}
 use Rattle.grove_effects.specs.declared.snapshot.NodeName.{NodeName}
-use Rattle.grove_data.specs.Numbers.{weights_of, bits_of}
+use Rattle.grove_data.specs.Numbers.{bits_of}
 use Rattle.grove_store.specs.StoreStates.{StoreState}
 use Rattle.grove_data.specs.Files.{OpensAs}
 use Rattle.grove_data.specs.Refusals.{IsRefused}
@@ -34,12 +34,6 @@ pub put_more : (out old new more : List ℕ) (last : ℕ) → new ≡ old ++ las
     → new ≡ out ++ (more ++ last ∷ [])
 put_more out old new more last is put =
     is ∙ ap (λ (l : List ℕ). l ++ last ∷ []) put ∙ append_assoc out more (last ∷ [])
-
-pub weights_more : (rows : Rows) (n : ℕ) → n < length rows
-    → weights_of (take (suc n) rows) ≡ weights_of (take n rows) ++ weight_of rows n ∷ []
-weights_more [] n lt = absurd (omega arith)
-weights_more (row ∷ rows) zero lt = refl
-weights_more (row ∷ rows) (suc n) lt = ap (λ (l : List ℕ). row.weight ∷ l) (weights_more rows n (omega arith))
 
 pub names_more : (rows : Rows) (n : ℕ) → n < length rows
     → unweighed (take (suc n) rows) ≡ unweighed (take n rows) ++ (parent_of rows n, name_of rows n) ∷ []
@@ -72,13 +66,6 @@ bits_again (word ∷ words) small =
     (bits_again words (All-tail P word words small))
 
 -- ---- one more
-
-pub put_weight : (out old new : List ℕ) (rows : Rows) (n weight : ℕ) → n < length rows → weight ≡ weight_of rows n
-    → old ≡ out ++ weights_of (take n rows) → new ≡ old ++ weight ∷ [] → new ≡ out ++ weights_of (take (n + 1) rows)
-put_weight out old new rows n weight lt is put pushed =
-    put_more out old new (weights_of (take n rows)) weight pushed put
-    ∙ ap (λ (w : ℕ). out ++ (weights_of (take n rows) ++ w ∷ [])) is
-    ∙ ap (λ (l : List ℕ). out ++ l) (rw add-one (sym (weights_more rows n lt)))
 
 pub put_record : (out old new : List ℕ) (records : List ℤ) (n bits : ℕ) (value : ℤ) → n < length records
     → FitsSigned w64 value → value ≡ get_or records n (pos 0) → bits ≡ cast_unsigned w64 value

@@ -8,7 +8,7 @@ use Rattle.std.proofs.lemmas.Bool.{and_parts, leb-true, ne_eqb, cond-false}
 use Rattle.std.proofs.lemmas.Option.{none-some}
 use Rattle.std.proofs.lemmas.Str.{IsUtf8-from_ascii}
 use Rattle.grove_tree.specs.Trees.{Rows, IsTree, parent_of, name_of, weight_of}
-use Rattle.grove_tree.specs.Weights.{unweighed}
+use Rattle.grove_tree.specs.Weights.{unweighed, weights_of}
 use Rattle.grove_tree.specs.Rules.{is_name_byte, IsWithinLimits}
 use Rattle.grove_tree.specs.Paths.{or_slash, path_of}
 use Rattle.grove_tree.proofs.Above.{parent_lt}
@@ -17,7 +17,6 @@ use Rattle.grove_tree.proofs.PathParts.{name_bytes}
 use Rattle.grove_tree.proofs.AsciiNames.{ascii_bytes}
 use Rattle.grove_tree.proofs.SameNames.{length-unweighed}
 use Rattle.grove_effects.specs.Snapshots.{IsNamed, parent_number}
-use Rattle.grove_data.specs.Numbers.{weights_of}
 use Rattle.grove_data.specs.Parts.{AreNames, last_name}
 
 -- the name at a place

@@ -9,10 +9,10 @@ use Rattle.std.proofs.lemmas.List.{length-append, length-map, length-drop, take_
 use Rattle.std.proofs.lemmas.List.Elements.{All-head, All-tail}
 use Rattle.grove_base.proofs.Lists.{read_at}
 use Rattle.grove_tree.specs.Trees.{Rows, NodeRow}
-use Rattle.grove_tree.specs.Weights.{unweighed}
+use Rattle.grove_tree.specs.Weights.{unweighed, weights_of}
 use Rattle.grove_tree.proofs.SameNames.{length-unweighed}
 use Rattle.grove_store.specs.StoreStates.{StoreState, IsStore}
-use Rattle.grove_data.specs.Numbers.{weights_of, bits_of, numbers_of}
+use Rattle.grove_data.specs.Numbers.{bits_of, numbers_of}
 use Rattle.grove_data.specs.Parts.{HasForm}
 use Rattle.grove_data.proofs.Splitting.{AreSame, same_numbers}
 

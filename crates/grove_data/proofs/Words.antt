@@ -4,9 +4,10 @@ use Rattle.std.specs.Prelude.{All, FitsSigned}
 use Rattle.std.specs.Int.{w64, cast_unsigned}
 use Rattle.std.proofs.lemmas.List.Elements.{All-append, All-weaker, All-map, All-cons, All-nil}
 use Rattle.std.proofs.Math.Facts.{Fits-of_z}
+use Rattle.grove_tree.specs.Weights.{weights_of}
 use Rattle.grove_effects.specs.Effects.{AreWords}
 use Rattle.grove_store.specs.StoreStates.{StoreState, IsStore, IsSuccessor}
-use Rattle.grove_data.specs.Numbers.{weights_of, bits_of, numbers_of}
+use Rattle.grove_data.specs.Numbers.{bits_of, numbers_of}
 use Rattle.grove_data.proofs.Named.{weights_small}
 use Rattle.grove_data.proofs.Stores.{numbers_long, same_length}
 

@@ -1,14 +1,10 @@
 -- A store as a list of numbers, and as what payloads stand for.
 use Rattle.std.specs.Prelude.{◌≡◌, ℕ, ℤ, List, [], ◌∷◌, ◌++◌, map, All, FitsSigned}
 use Rattle.std.specs.Int.{w64, cast_unsigned}
-use Rattle.grove_tree.specs.Trees.{Rows}
-use Rattle.grove_tree.specs.Weights.{unweighed}
+use Rattle.grove_tree.specs.Weights.{unweighed, weights_of}
 use Rattle.grove_effects.specs.Effects.{AreWords, LeadsTo}
 use Rattle.grove_effects.specs.Snapshots.{Names, snapshot}
 use Rattle.grove_store.specs.StoreStates.{StoreState}
-
-abbrev pub weights_of : Rows → List ℕ
-weights_of rows = map (λ row. row.weight) rows
 
 -- the 64 bits of each record
 abbrev pub bits_of : List ℤ → List ℕ

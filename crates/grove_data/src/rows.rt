@@ -3,11 +3,11 @@ ghost use Rattle.std.specs.Prelude.{◌≡◌, ◌<◌, ◌≤◌, ◌^◌, leng
 ghost use Rattle.std.specs.Int.{w64};
 ghost use Rattle.std.specs.Str.{IsUtf8};
 ghost use Rattle.grove_tree.specs.Trees.{Rows};
-ghost use Rattle.grove_tree.specs.Weights.{unweighed};
+ghost use Rattle.grove_tree.specs.Weights.{unweighed, weights_of};
 ghost use Rattle.grove_tree.specs.Rules.{AreTreeRows};
 ghost use Rattle.grove_tree.specs.BuiltRows.{rows_of};
 ghost use Rattle.grove_effects.specs.Snapshots.{names_of};
-ghost use Rattle.grove_data.specs.Numbers.{weights_of, bits_of};
+ghost use Rattle.grove_data.specs.Numbers.{bits_of};
 ghost use Rattle.grove_data.specs.Parts.{IsFor};
 
 use crate::NoStoreThere;

@@ -23,3 +23,4 @@ pub mod WaysDown
 pub mod Standings
 pub mod Siblings
 pub mod RowMarks
+pub mod WeightsBelow

@@ -15,3 +15,7 @@ with_weights weight rows = weighed_from weight 0 rows
 -- the rows without their weights
 abbrev pub unweighed : Rows → List (Option ℕ × List ℕ)
 unweighed rows = map (λ row. (row.parent, row.name)) rows
+
+-- the weights of the rows
+abbrev pub weights_of : Rows → List ℕ
+weights_of rows = map (λ row. row.weight) rows

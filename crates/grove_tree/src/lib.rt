@@ -19,6 +19,7 @@ mod finding;
 mod gate;
 mod growing;
 mod likeness;
+mod listing;
 mod marks;
 mod name;
 mod node;

@@ -1,11 +1,13 @@
-ghost use Rattle.std.specs.Prelude.{◌≡◌, ◌≢◌, ℕ, ◌<◌, ◌↔◌, length, IsTrue, IfOk, OnOk, IfErr, IsErrOf, IfSome, Some};
+ghost use Rattle.std.specs.Prelude.{◌≡◌, ◌≢◌, ℕ, ◌<◌, ◌↔◌, ◌++◌, length, IsTrue, IfOk, OnOk, IfErr, IsErrOf, IfSome, Some};
 ghost use Rattle.std.specs.Prelude.{None, string_bytes};
 ghost use Rattle.grove_tree.specs.Trees.{IsTree, IsAbove, parent_of, weight_of, depth_of};
 ghost use Rattle.grove_tree.specs.Paths.{path_of, node_at, names_within};
 ghost use Rattle.grove_tree.specs.Rules.{tree_fault_of, IsWithinLimits, AreTreeRows};
 ghost use Rattle.grove_tree.specs.BuiltRows.{rows_of};
+ghost use Rattle.grove_tree.specs.Weights.{weights_of};
 
 use crate::growing::grow;
+use crate::listing::put_weights;
 use crate::rules::fault_of;
 use crate::standing::{Standing, standings_of};
 use crate::{NoMemory, Node, Outline, Row, TreeFault};
@@ -138,6 +140,13 @@ impl Tree {
             at = child;
         }
         at.weight
+    }
+
+    /// Puts the weights of all nodes, by their numbers, behind what stands there.
+    pub fn put_weights(&self, out: &mut Vec<u64>) -> Result<(), NoMemory>
+        ensures { OnOk result (out.new.items ≡ out.old.items ++ weights_of self.now) }
+    {
+        Ok(put_weights(out, &self.root)?)
     }
 
     /// The number of nodes. What holds of every tree is told here.

@@ -3,13 +3,13 @@ use Rattle.std.proofs.Common.{rules, ◌∙◌}
 use Rattle.std.specs.Prelude.{All}
 use Rattle.std.proofs.lemmas.List.{length-map}
 use Rattle.grove_tree.specs.Trees.{Rows}
-use Rattle.grove_tree.specs.Weights.{unweighed}
+use Rattle.grove_tree.specs.Weights.{unweighed, weights_of}
 use Rattle.grove_tree.specs.Rules.{AreTreeRows}
 use Rattle.grove_tree.proofs.SameNames.{length-unweighed}
 use Rattle.grove_effects.specs.Snapshots.{Names, named_of, names_of}
 use Rattle.grove_effects.specs.declared.snapshot.NodeName.{NodeName}
 use Rattle.grove_store.specs.StoreStates.{StoreState, IsStore}
-use Rattle.grove_data.specs.Numbers.{weights_of, numbers_of}
+use Rattle.grove_data.specs.Numbers.{numbers_of}
 use Rattle.grove_data.specs.Parts.{IsStoreOf}
 use Rattle.grove_data.proofs.Counting.{passes, for_more}
 use Rattle.grove_data.proofs.Stores.{weights_first, waits_third, parts_of, joined}

@@ -2,12 +2,11 @@ use Rattle.std.proofs.Common.{◌<◌, ◌^◌, ◌≡◌, ℕ, List, Option, sy
 use Rattle.std.specs.Prelude.{All}
 use Rattle.std.specs.Str.{IsUtf8}
 use Rattle.grove_tree.specs.Trees.{Rows}
-use Rattle.grove_tree.specs.Weights.{unweighed}
+use Rattle.grove_tree.specs.Weights.{unweighed, weights_of}
 use Rattle.grove_tree.specs.Rules.{AreTreeRows}
 use Rattle.grove_tree.specs.BuiltRows.{rows_of}
 use Rattle.grove_tree.specs.declared.row.Row.{Row}
 use Rattle.grove_effects.specs.Snapshots.{Names, names_of}
-use Rattle.grove_data.specs.Numbers.{weights_of}
 use Rattle.grove_data.specs.Parts.{tree_fault_said}
 use Rattle.grove_data.proofs.Counting.{passes, for_more, tree_refused}
 use Rattle.grove_data.proofs.Named.{names_text, weights_small}
