@@ -14,6 +14,7 @@
 enum {
     NODES = 4096,
     ACCESSES = 64,
+    LONGEST = 1000,
     /* a list may have one access too many */
     LISTED = ACCESSES + 1,
     /* the longest plan, and more: those of others may have any length */
@@ -51,6 +52,7 @@ struct values {
     size_t nodes_count;
     uint32_t nodes[LISTED], lengths[LISTED];
     size_t listed;
+    int has_bad_length;
     grove_step steps[STEPS];
     size_t steps_count;
     grove_flow_row rows[NODES];
@@ -103,11 +105,17 @@ static int read_node(char **words) {
     return 1;
 }
 
+/* A document is read access by access, and the library looks at all nodes before the lengths. So what comes behind an
+   access of a bad length has any node that there is. */
 static int read_access(char **words) {
+    uint32_t *slots = &values.lengths[values.listed];
+    int is_number;
     if (values.listed == LISTED)
         return 1;
-    values.nodes[values.listed] = find_whole(words[2]);
-    return read_short(words[4], &values.lengths[values.listed++]);
+    values.nodes[values.listed++] = values.has_bad_length ? 0 : find_whole(words[2]);
+    is_number = read_short(words[4], slots);
+    values.has_bad_length |= *slots < 1 || *slots > LONGEST;
+    return is_number;
 }
 
 /* A step of a node that isn't there has no number. */
@@ -277,7 +285,7 @@ static void answer_each(void) {
 static void begin(void) {
     values.nodes_count = values.listed = values.steps_count = values.rows_count = 0;
     values.is_tree = 1;
-    values.is_plan = values.is_flow = 0;
+    values.is_plan = values.is_flow = values.has_bad_length = 0;
 }
 
 /* All of standard input, with a zero behind it. */
