@@ -443,8 +443,8 @@ const UNMARKED = {};
 /** The nodes by their places in the tree's order, each with what the last look found of it. */
 let tree = [];
 
-/** Parents and ends of subtrees are places; `marks` tells what rose and what fell at the last change that was seen, `was`
-    the weight before. */
+/** Parents and ends of subtrees are places; `marks` tells what rose and what fell at the last change that was seen,
+    `was` the weight before. */
 function treeOf(nodes) {
   const places = new Map(nodes.map((node, at) => [node.path, at]));
   const planted = nodes.map((node, at) => {
@@ -470,8 +470,8 @@ function isKnown(nodes) {
   return nodes.length === tree.length && nodes.every(({ path }, at) => path === tree[at].path);
 }
 
-/** Takes what a look found; of a tree that the page knows it marks what rose and what fell. These marks stay until a look
-    finds other numbers, so that a second look at the same change leaves them. */
+/** Takes what a look found; of a tree that the page knows it marks what rose and what fell. These marks stay until a
+    look finds other numbers, so that a second look at the same change leaves them. */
 function takeNodes(nodes, isAnew) {
   const isOther = !isKnown(nodes);
   if (isOther) plant(nodes);

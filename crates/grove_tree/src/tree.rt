@@ -1,5 +1,5 @@
-ghost use Rattle.std.specs.Prelude.{◌≡◌, ◌≢◌, ℕ, ◌<◌, ◌↔◌, ◌++◌, length, IsTrue, IfOk, OnOk, IfErr, IsErrOf, IfSome, Some};
-ghost use Rattle.std.specs.Prelude.{None, string_bytes};
+ghost use Rattle.std.specs.Prelude.{◌≡◌, ◌≢◌, ℕ, ◌<◌, ◌↔◌, ◌++◌, length, IsTrue, IfOk, OnOk, IfErr, IsErrOf};
+ghost use Rattle.std.specs.Prelude.{IfSome, Some, None, string_bytes};
 ghost use Rattle.grove_tree.specs.Trees.{IsTree, IsAbove, parent_of, weight_of, depth_of};
 ghost use Rattle.grove_tree.specs.Paths.{path_of, node_at, names_within};
 ghost use Rattle.grove_tree.specs.Rules.{tree_fault_of, IsWithinLimits, AreTreeRows};
