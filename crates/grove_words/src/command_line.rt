@@ -22,7 +22,15 @@ pub fn order_of<'a>(alloc: Global, words: &'a [String]) -> Result<Invocation<'a>
 
 /// What clap finds in the words, or what they are told. A place may have what is no address.
 fn invocation_among<'a>(alloc: Global, words: &'a [String]) -> Result<Invocation<'a>, Error> {
-    let matches = command_line(alloc)?.try_get_matches_from(words)?;
+    let matches = matches_among(alloc, words)?;
+    invocation_of(alloc, &matches)
+}
+
+fn matches_among<'a>(alloc: Global, words: &'a [String]) -> Result<ArgMatches<'a>, Error> {
+    command_line(alloc)?.try_get_matches_from(words)
+}
+
+fn invocation_of<'a>(alloc: Global, matches: &ArgMatches<'a>) -> Result<Invocation<'a>, Error> {
     match matches.subcommand() {
         Some((word, given)) => Ok(Invocation {
             order: order_with(alloc, word, given)?,
@@ -41,7 +49,28 @@ fn invocation_among<'a>(alloc: Global, words: &'a [String]) -> Result<Invocation
 /// The order of a command's word and of what was given with it. Clap lets no other words through.
 fn order_with<'a>(alloc: Global, word: &str, given: &ArgMatches<'a>) -> Result<Order<'a>, Error> {
     go_together(alloc, word, given)?;
-    let command = match word {
+    match word {
+        "serve" => serving_order(alloc, word, Front::Sessions, given),
+        "page" => serving_order(alloc, word, Front::Page, given),
+        "ask" => asking_order(alloc, word, given),
+        "save" => Ok(Order::Save {
+            server: server_in(alloc, word, given)?,
+            file: file_in(given),
+        }),
+        "data" => Ok(Order::Data {
+            file: file_in(given),
+            checks: given.get_flag("check"),
+        }),
+        _ => Ok(Order::Do {
+            command: reading_command(word, given),
+            document: document_in(given, "DOC"),
+        }),
+    }
+}
+
+/// What is done with a document that is read.
+fn reading_command<'a>(word: &str, given: &ArgMatches<'_>) -> Command<'a> {
+    match word {
         "check" => Command::Check,
         "plan" => Command::Plan {
             in_document: given.get_flag("document"),
@@ -54,32 +83,8 @@ fn order_with<'a>(alloc: Global, word: &str, given: &ArgMatches<'a>) -> Result<O
         },
         "audit" => Command::Audit,
         "tree" => tree_command(given),
-        "serve" => return serving_order(alloc, word, Front::Sessions, given),
-        "page" => return serving_order(alloc, word, Front::Page, given),
-        "data" => {
-            return Ok(Order::Data {
-                file: file_in(given),
-                checks: given.get_flag("check"),
-            });
-        }
-        "ask" => {
-            return Ok(Order::Ask {
-                server: server_in(alloc, word, given)?,
-                lines: texts_of(alloc, given, "LINE")?,
-            });
-        }
-        "save" => {
-            return Ok(Order::Save {
-                server: server_in(alloc, word, given)?,
-                file: file_in(given),
-            });
-        }
         _judge => Command::Judge,
-    };
-    Ok(Order::Do {
-        command,
-        document: document_in(given),
-    })
+    }
 }
 
 /// A store is served: a document's, or without one that of the file of its rounds.
@@ -90,7 +95,7 @@ fn serving_order<'a>(
     given: &ArgMatches<'a>,
 ) -> Result<Order<'a>, Error> {
     let serving = serving_in(alloc, word, given)?;
-    if let (None, Some(file)) = (given.get_str("DOC"), serving.data) {
+    if let (None, Some(file)) = (given.get_str("tree"), serving.data) {
         return Ok(Order::Resume {
             front,
             file,
@@ -103,13 +108,19 @@ fn serving_order<'a>(
     };
     Ok(Order::Do {
         command,
-        document: document_in(given),
+        document: document_in(given, "tree"),
     })
 }
 
-/// Where the document of a command is.
-fn document_in<'a>(given: &ArgMatches<'a>) -> Document<'a> {
-    match given.get_str("DOC") {
+fn asking_order<'a>(alloc: Global, word: &str, given: &ArgMatches<'a>) -> Result<Order<'a>, Error> {
+    let server = server_in(alloc, word, given)?;
+    let lines = texts_of(alloc, given, "LINE")?;
+    Ok(Order::Ask { server, lines })
+}
+
+/// Where the document of a command is, which is named under this name.
+fn document_in<'a>(given: &ArgMatches<'a>, name: &str) -> Document<'a> {
+    match given.get_str(name) {
         Some(name) => Document::Named(name),
         None => Document::StandardInput,
     }

@@ -1,4 +1,7 @@
-use clap::{Arg, ArgAction, ArgGroup, value_parser};
+use crate::arguments::{Argument, with_arguments};
+use crate::options::MOST_WORKERS;
+use clap::builder::ValueParser;
+use clap::{ArgAction, ArgGroup};
 use std::alloc::{AllocError, Global};
 
 /// The program's version.
@@ -10,319 +13,405 @@ const LONGEST_IDLE: i64 = 86_400;
 /// How many connections over HTTP are served at once at most.
 const MOST_HTTP_SEATS: i64 = 1_024;
 
-/// The forms of a log.
-static LOG_FORMS: [&str; 2] = ["text", "json"];
+/// The last port.
+const LAST_PORT: i64 = 65_535;
 
-/// How often rounds may be synced.
-static SYNCS: [&str; 2] = ["round", "second"];
+/// An option with a text as its value.
+const OPTION: Argument = Argument {
+    name: "",
+    is_placed: false,
+    value: None,
+    action: ArgAction::Set,
+    parser: ValueParser::String,
+    default: None,
+    is_required: false,
+    is_hidden: false,
+    help: "",
+};
+
+const FLAG: Argument = Argument {
+    action: ArgAction::SetTrue,
+    parser: ValueParser::Bool,
+    ..OPTION
+};
+
+/// A text that is known by its place.
+const PLACE: Argument = Argument {
+    is_placed: true,
+    ..OPTION
+};
+
+const QUIET: Argument = Argument {
+    name: "quiet",
+    help: "If a file, a port or a server fails, leave out the line that says why",
+    ..FLAG
+};
+
+/// What it asks for is done without it. It is taken so that words which have it stay right.
+const EXPLAIN: Argument = Argument {
+    name: "explain",
+    help: "Say why something fails, as is done anyway",
+    is_hidden: true,
+    ..FLAG
+};
+
+const WORKERS: Argument = Argument {
+    name: "workers",
+    value: Some("N"),
+    parser: ValueParser::Signed(1, MOST_WORKERS as i64),
+    default: Some("4"),
+    help: "How many threads run lists at once",
+    ..OPTION
+};
+
+const PORT: Argument = Argument {
+    name: "port",
+    value: Some("P"),
+    parser: ValueParser::Signed(1, LAST_PORT),
+    ..OPTION
+};
+
+const ADDRESS: Argument = Argument {
+    value: Some("ADDRESS"),
+    default: Some("127.0.0.1"),
+    ..OPTION
+};
+
+/// A command: the word that it is called by, and what help says of it.
+#[derive(Clone, Copy)]
+struct Definition {
+    word: &'static str,
+    about: &'static str,
+    kind: Kind,
+    /// The arguments of its own, which come after those of its kind.
+    own: &'static [Argument],
+}
+
+/// What commands have in common.
+#[derive(Clone, Copy)]
+enum Kind {
+    /// A document is read.
+    Reading,
+    /// A document's tree is served at a port.
+    Serving,
+    /// The server at a port is called.
+    Calling,
+    /// Nothing.
+    Alone,
+}
+
+/// The arguments of commands that read a document, in the order of their help.
+static READING: [Argument; 3] = [
+    Argument {
+        name: "DOC",
+        help: "The file to read; by default standard input",
+        ..PLACE
+    },
+    QUIET,
+    EXPLAIN,
+];
+
+/// Those of commands that serve.
+static SERVING: [Argument; 15] = [
+    Argument {
+        name: "tree",
+        value: Some("DOC"),
+        help: "The file of the document with the tree and its records",
+        ..OPTION
+    },
+    Argument {
+        name: "data",
+        value: Some("FILE"),
+        help: "Keep each round in this file, which goes on from there; it is made of DOC if it isn't there",
+        ..OPTION
+    },
+    Argument {
+        name: "sync",
+        value: Some("WHEN"),
+        parser: ValueParser::Names(&["round", "second"]),
+        help: "Sync FILE at each round, or each second, so that a crash loses about a second; by default round",
+        ..OPTION
+    },
+    Argument {
+        help: "The port to listen on",
+        ..PORT
+    },
+    Argument {
+        name: "any-port",
+        help: "Listen on any free port, instead of --port",
+        ..FLAG
+    },
+    Argument {
+        name: "bind",
+        help: "The IP address to listen at",
+        ..ADDRESS
+    },
+    QUIET,
+    EXPLAIN,
+    WORKERS,
+    Argument {
+        name: "idle",
+        value: Some("SECONDS"),
+        parser: ValueParser::Signed(1, LONGEST_IDLE),
+        help: "Close a connection that sends no whole line for so long; by default none is closed",
+        ..OPTION
+    },
+    Argument {
+        name: "busy",
+        help: "If all connection slots are taken, refuse a new connection; by default it waits",
+        ..FLAG
+    },
+    Argument {
+        name: "verbose",
+        help: "Log each connection on standard error, and each minute what was done",
+        ..FLAG
+    },
+    Argument {
+        name: "log",
+        value: Some("FORM"),
+        parser: ValueParser::Names(&["text", "json"]),
+        help: "The form of the log of --verbose: text or json; by default text",
+        ..OPTION
+    },
+    Argument {
+        name: "hints",
+        help: "Add a hint to the reply to each refused line: what is wrong, and where",
+        ..FLAG
+    },
+    Argument {
+        name: "host",
+        value: Some("NAME"),
+        action: ArgAction::Append,
+        help: "A name that requests over HTTP may use for this host; may be repeated",
+        ..OPTION
+    },
+];
+
+/// Those of commands that call a server.
+static CALLING: [Argument; 4] = [
+    Argument {
+        is_required: true,
+        help: "The server's port",
+        ..PORT
+    },
+    Argument {
+        name: "address",
+        help: "The server's IP address",
+        ..ADDRESS
+    },
+    QUIET,
+    EXPLAIN,
+];
+
+static COMMANDS: [Definition; 12] = [
+    Definition {
+        word: "judge",
+        about: "Judge a plan: its cost, and the replies and records of its list",
+        kind: Kind::Reading,
+        own: &[],
+    },
+    Definition {
+        word: "check",
+        about: "Check a plan and its flow: its cost, if no legal plan for the list costs less",
+        kind: Kind::Reading,
+        own: &[],
+    },
+    Definition {
+        word: "plan",
+        about: "Plan a list: the cheapest plan, and the flow that proves it",
+        kind: Kind::Reading,
+        own: &[Argument {
+            name: "document",
+            help: "Print the whole document, with the plan and the flow in it",
+            ..FLAG
+        }],
+    },
+    Definition {
+        word: "draw",
+        about: "Draw a list's cheapest plan, and above it the document's own, if it has one",
+        kind: Kind::Reading,
+        own: &[Argument {
+            name: "text",
+            help: "Print lines for a terminal instead of SVG",
+            ..FLAG
+        }],
+    },
+    Definition {
+        word: "run",
+        about: "Run a batch of lists at once: their serial order, replies, records and waits",
+        kind: Kind::Reading,
+        own: &[WORKERS],
+    },
+    Definition {
+        word: "audit",
+        about: "Audit a history: what its events give, if they are a finished run",
+        kind: Kind::Reading,
+        own: &[],
+    },
+    Definition {
+        word: "tree",
+        about: "Make a document from CSV lines 'path,weight,value', or such lines from a document",
+        kind: Kind::Reading,
+        own: &[
+            Argument {
+                name: "csv",
+                help: "Read a document, and print its tree as CSV",
+                ..FLAG
+            },
+            Argument {
+                name: "parents",
+                help: "Add each parent that has no line, with weight 1 and value 0",
+                ..FLAG
+            },
+        ],
+    },
+    Definition {
+        word: "serve",
+        about: "Serve sessions with the records of a tree over TCP",
+        kind: Kind::Serving,
+        own: &[
+            Argument {
+                name: "http",
+                value: Some("PORT"),
+                help: "Serve the page and its requests over HTTP too, at this port",
+                ..PORT
+            },
+            Argument {
+                name: "http-seats",
+                value: Some("N"),
+                parser: ValueParser::Signed(1, MOST_HTTP_SEATS),
+                help: "How many connections over HTTP are served at once; by default 64",
+                ..OPTION
+            },
+        ],
+    },
+    Definition {
+        word: "page",
+        about: "Serve the records of a tree over HTTP, with a page to look at them",
+        kind: Kind::Serving,
+        own: &[],
+    },
+    Definition {
+        word: "ask",
+        about: "Send lines to a server, and print its replies",
+        kind: Kind::Calling,
+        own: &[Argument {
+            name: "LINE",
+            action: ArgAction::Append,
+            help: "The lines to send; by default those of standard input",
+            ..PLACE
+        }],
+    },
+    Definition {
+        word: "save",
+        about: "Save a server's tree and records in a file, over HTTP",
+        kind: Kind::Calling,
+        own: &[Argument {
+            name: "FILE",
+            is_required: true,
+            help: "The file to write; an existing one is replaced in one step",
+            ..PLACE
+        }],
+    },
+    Definition {
+        word: "data",
+        about: "Print the document of a file of --data, also while a server has it open",
+        kind: Kind::Alone,
+        own: &[
+            Argument {
+                name: "FILE",
+                is_required: true,
+                help: "The file of --data; it is only read",
+                ..PLACE
+            },
+            Argument {
+                name: "check",
+                help: "Print its rounds, its bytes, and whether its end is whole",
+                ..FLAG
+            },
+            QUIET,
+            EXPLAIN,
+        ],
+    },
+];
 
 /// The one definition of the command line.
 pub fn command_line<'a>(alloc: Global) -> Result<clap::Command<'a>, AllocError> {
-    let judges = add(program(alloc), judge(alloc));
-    let checks = add(judges, check(alloc));
-    let plans = add(checks, plan(alloc));
-    let draws = add(plans, draw(alloc));
-    let runs = add(draws, run(alloc));
-    let audits = add(runs, audit(alloc));
-    let trees = add(audits, tree(alloc));
-    let serves = add(trees, serve(alloc));
-    let pages = add(serves, page(alloc));
-    let asks = add(pages, ask(alloc));
-    let saves = add(asks, save(alloc));
-    add(saves, data(alloc))
+    let mut program = program(alloc)?;
+    for definition in commands() {
+        program = program.subcommand(command(alloc, definition)?)?;
+    }
+    Ok(program)
 }
 
-/// The program with one more command, if there was memory for both.
-fn add<'a>(
-    program: Result<clap::Command<'a>, AllocError>,
-    command: Result<clap::Command<'a>, AllocError>,
-) -> Result<clap::Command<'a>, AllocError> {
-    program?.subcommand(command?)
-}
-
-/// The command of a word, to show how it is used; the program if it isn't one of those whose words clap takes without
-/// looking at all that they need.
+/// The command of a word, to show how it is used; the program if no command has that word.
 pub fn command_named<'a>(alloc: Global, word: &str) -> Result<clap::Command<'a>, AllocError> {
-    match word {
-        "tree" => tree(alloc)?.bin_name("grove tree"),
-        "serve" => serve(alloc)?.bin_name("grove serve"),
-        "page" => page(alloc)?.bin_name("grove page"),
-        "ask" => ask(alloc)?.bin_name("grove ask"),
-        "save" => save(alloc)?.bin_name("grove save"),
-        "data" => data(alloc)?.bin_name("grove data"),
-        _ => command_line(alloc),
+    match commands().iter().find(|command| command.word == word) {
+        Some(definition) => {
+            let full_name = format!(in alloc; "grove {word}")?;
+            command(alloc, definition)?.bin_name(&full_name)
+        }
+        None => command_line(alloc),
     }
 }
 
 /// The program before it has its commands.
 fn program<'a>(alloc: Global) -> Result<clap::Command<'a>, AllocError> {
-    let named = clap::Command::new(alloc, "grove").bin_name("grove")?;
-    Ok(
-        named.version(VERSION).no_binary_name(true).about(
-            "Records at the nodes of a tree, and lock plans for it. Without a command: judge",
-        ),
-    )
+    clap::Command::new(alloc, "grove")
+        .version(VERSION)
+        .no_binary_name(true)
+        .about("Records at the nodes of a tree, and lock plans for it. Without a command: judge")
+        .bin_name("grove")
 }
 
-fn judge<'a>(alloc: Global) -> Result<clap::Command<'a>, AllocError> {
-    let about = "Judge a plan: its cost, and the replies and records of its list";
-    reading(alloc, "judge", about)
+fn commands() -> &'static [Definition] {
+    &COMMANDS
 }
 
-fn check<'a>(alloc: Global) -> Result<clap::Command<'a>, AllocError> {
-    let about = "Check a plan and its flow: its cost, if no legal plan for the list costs less";
-    reading(alloc, "check", about)
+fn command<'a>(alloc: Global, definition: &Definition) -> Result<clap::Command<'a>, AllocError> {
+    let command = clap::Command::new(alloc, definition.word).about(definition.about);
+    let command = with_arguments(alloc, command, arguments(definition.kind))?;
+    let command = with_arguments(alloc, command, definition.own)?;
+    with_needs(alloc, command, definition.kind)
 }
 
-fn plan<'a>(alloc: Global) -> Result<clap::Command<'a>, AllocError> {
-    let about = "Plan a list: the cheapest plan, and the flow that proves it";
-    let help = "Print the whole document, with the plan and the flow in it";
-    reading(alloc, "plan", about)?.arg(flag(alloc, "document", help))
+/// The arguments that commands of a kind have.
+fn arguments(kind: Kind) -> &'static [Argument] {
+    match kind {
+        Kind::Reading => &READING,
+        Kind::Serving => &SERVING,
+        Kind::Calling => &CALLING,
+        Kind::Alone => &[],
+    }
 }
 
-fn draw<'a>(alloc: Global) -> Result<clap::Command<'a>, AllocError> {
-    let about = "Draw a list's cheapest plan, and above it the document's own, if it has one";
-    let help = "Print lines for a terminal instead of SVG";
-    reading(alloc, "draw", about)?.arg(flag(alloc, "text", help))
-}
-
-fn run<'a>(alloc: Global) -> Result<clap::Command<'a>, AllocError> {
-    let about = "Run a batch of lists at once: their serial order, replies, records and waits";
-    reading(alloc, "run", about)?.arg(workers(alloc))
-}
-
-fn audit<'a>(alloc: Global) -> Result<clap::Command<'a>, AllocError> {
-    let about = "Audit a history: what its events give, if they are a finished run";
-    reading(alloc, "audit", about)
-}
-
-/// A command that reads a document.
-fn reading<'a>(
+/// A command with what its kind needs to be told. What is served comes from a document, from the file of an earlier
+/// server, or is looked for in both; and one of the ways to say which port is listened on is needed.
+fn with_needs<'a>(
     alloc: Global,
-    name: &'static str,
-    about: &'static str,
+    command: clap::Command<'a>,
+    kind: Kind,
 ) -> Result<clap::Command<'a>, AllocError> {
-    let document = Arg::new(alloc, "DOC").help("The file to read; by default standard input");
-    clap::Command::new(alloc, name)
-        .about(about)
-        .arg(document)?
-        .arg(quiet(alloc))?
-        .arg(explain(alloc))
+    match kind {
+        Kind::Serving => {
+            let sourced = needing(alloc, command, "source", &["tree", "data"], true)?;
+            needing(alloc, sourced, "listening", &["port", "any-port"], false)
+        }
+        _ => Ok(command),
+    }
 }
 
-/// The command for trees by path.
-fn tree<'a>(alloc: Global) -> Result<clap::Command<'a>, AllocError> {
-    let about = "Make a document from CSV lines 'path,weight,value', or such lines from a document";
-    let csv = "Read a document, and print its tree as CSV";
-    let parents = "Add each parent that has no line, with weight 1 and value 0";
-    reading(alloc, "tree", about)?
-        .arg(flag(alloc, "csv", csv))?
-        .arg(flag(alloc, "parents", parents))
-}
-
-/// The command that serves sessions, and can serve over HTTP too.
-fn serve<'a>(alloc: Global) -> Result<clap::Command<'a>, AllocError> {
-    let about = "Serve sessions with the records of a tree over TCP";
-    serving(alloc, "serve", about)?
-        .arg(http(alloc))?
-        .arg(http_seats(alloc))
-}
-
-/// The command that serves over HTTP alone.
-fn page<'a>(alloc: Global) -> Result<clap::Command<'a>, AllocError> {
-    let about = "Serve the records of a tree over HTTP, with a page to look at them";
-    serving(alloc, "page", about)
-}
-
-/// A command that serves a document's tree at a port.
-fn serving<'a>(
+/// A command that needs one of some options, or takes several of them.
+fn needing<'a>(
     alloc: Global,
+    command: clap::Command<'a>,
     name: &'static str,
-    about: &'static str,
+    options: &'static [&'static str],
+    takes_several: bool,
 ) -> Result<clap::Command<'a>, AllocError> {
-    let any_port = "Listen on any free port, instead of --port";
-    let busy = "If all connection slots are taken, refuse a new connection; by default it waits";
-    let verbose = "Log each connection on standard error, and each minute what was done";
-    let hints = "Add a hint to the reply to each refused line: what is wrong, and where";
-    clap::Command::new(alloc, name)
-        .about(about)
-        .args(vec![in alloc;
-            document(alloc),
-            kept(alloc),
-            sync(alloc),
-            port(alloc, "The port to listen on"),
-            flag(alloc, "any-port", any_port),
-            address(alloc, "bind", "The IP address to listen at"),
-            quiet(alloc),
-            explain(alloc),
-            workers(alloc),
-            idle(alloc),
-            flag(alloc, "busy", busy),
-            flag(alloc, "verbose", verbose),
-            log(alloc),
-            flag(alloc, "hints", hints),
-            host(alloc),
-        ]?)?
-        .group(source(alloc)?)?
-        .group(listening(alloc)?)
-}
-
-/// What is served comes from a document, from the file of an earlier server, or is looked for in both.
-fn source<'a>(alloc: Global) -> Result<ArgGroup<'a>, AllocError> {
-    let sources = ArgGroup::new(alloc, "source").arg("DOC")?.arg("data")?;
-    Ok(sources.multiple(true).required(true))
-}
-
-/// One of the ways to say which port is listened on is needed.
-fn listening<'a>(alloc: Global) -> Result<ArgGroup<'a>, AllocError> {
-    let ways = ArgGroup::new(alloc, "listening")
-        .arg("port")?
-        .arg("any-port")?;
-    Ok(ways.required(true))
-}
-
-/// The command that asks the server at a port.
-fn ask<'a>(alloc: Global) -> Result<clap::Command<'a>, AllocError> {
-    let about = "Send lines to a server, and print its replies";
-    let help = "The lines to send; by default those of standard input";
-    let lines = Arg::new(alloc, "LINE").action(ArgAction::Append).help(help);
-    calling(alloc, "ask", about)?.arg(lines)
-}
-
-/// The command that writes the document of the server at a port into a file.
-fn save<'a>(alloc: Global) -> Result<clap::Command<'a>, AllocError> {
-    let about = "Save a server's tree and records in a file, over HTTP";
-    let help = "The file to write; an existing one is replaced in one step";
-    let file = Arg::new(alloc, "FILE").help(help).required(true);
-    calling(alloc, "save", about)?.arg(file)
-}
-
-/// The command that looks into the file of a server's rounds.
-fn data<'a>(alloc: Global) -> Result<clap::Command<'a>, AllocError> {
-    let about = "Print the document of a file of --data, also while a server has it open";
-    let help = "The file of --data; it is only read";
-    let check = "Print its rounds, its bytes, and whether its end is whole";
-    let file = Arg::new(alloc, "FILE").help(help).required(true);
-    clap::Command::new(alloc, "data")
-        .about(about)
-        .arg(file)?
-        .arg(flag(alloc, "check", check))?
-        .arg(quiet(alloc))?
-        .arg(explain(alloc))
-}
-
-/// A command that is a client of the server at a port.
-fn calling<'a>(
-    alloc: Global,
-    name: &'static str,
-    about: &'static str,
-) -> Result<clap::Command<'a>, AllocError> {
-    clap::Command::new(alloc, name)
-        .about(about)
-        .arg(port(alloc, "The server's port").required(true))?
-        .arg(address(alloc, "address", "The server's IP address"))?
-        .arg(quiet(alloc))?
-        .arg(explain(alloc))
-}
-
-fn document<'a>(alloc: Global) -> Arg<'a> {
-    let help = "The file of the document with the tree and its records";
-    valued(alloc, "DOC", "tree", "DOC", help)
-}
-
-fn kept<'a>(alloc: Global) -> Arg<'a> {
-    let help =
-        "Keep each round in this file, which goes on from there; it is made of DOC if it isn't there";
-    valued(alloc, "data", "data", "FILE", help)
-}
-
-fn sync<'a>(alloc: Global) -> Arg<'a> {
-    let help =
-        "Sync FILE at each round, or each second, so that a crash loses about a second; by default round";
-    valued(alloc, "sync", "sync", "WHEN", help)
-        .value_parser(SYNCS.as_slice())
-        .hide_possible_values(true)
-}
-
-fn quiet<'a>(alloc: Global) -> Arg<'a> {
-    let help = "If a file, a port or a server fails, leave out the line that says why";
-    flag(alloc, "quiet", help)
-}
-
-/// What it asks for is done without it. It is taken so that words which have it stay right.
-fn explain<'a>(alloc: Global) -> Arg<'a> {
-    flag(
-        alloc,
-        "explain",
-        "Say why something fails, as is done anyway",
-    )
-    .hide(true)
-}
-
-fn workers<'a>(alloc: Global) -> Arg<'a> {
-    let help = "How many threads run lists at once";
-    valued(alloc, "workers", "workers", "N", help)
-        .value_parser(value_parser!(u32).range(1..=16))
-        .default_value("4")
-}
-
-fn idle<'a>(alloc: Global) -> Arg<'a> {
-    let help = "Close a connection that sends no whole line for so long; by default none is closed";
-    valued(alloc, "idle", "idle", "SECONDS", help).value_parser(value_parser!(u32).range(
-        1..=LONGEST_IDLE,
-    ))
-}
-
-fn port<'a>(alloc: Global, help: &'static str) -> Arg<'a> {
-    valued(alloc, "port", "port", "P", help).value_parser(value_parser!(u16).range(1..=65535))
-}
-
-fn http<'a>(alloc: Global) -> Arg<'a> {
-    let help = "Serve the page and its requests over HTTP too, at this port";
-    valued(alloc, "http", "http", "PORT", help).value_parser(value_parser!(u16).range(1..=65535))
-}
-
-fn http_seats<'a>(alloc: Global) -> Arg<'a> {
-    let help = "How many connections over HTTP are served at once; by default 64";
-    valued(alloc, "http-seats", "http-seats", "N", help).value_parser(value_parser!(u32).range(
-        1..=MOST_HTTP_SEATS,
-    ))
-}
-
-fn log<'a>(alloc: Global) -> Arg<'a> {
-    let help = "The form of the log of --verbose: text or json; by default text";
-    valued(alloc, "log", "log", "FORM", help)
-        .value_parser(LOG_FORMS.as_slice())
-        .hide_possible_values(true)
-}
-
-fn host<'a>(alloc: Global) -> Arg<'a> {
-    let help = "A name that requests over HTTP may use for this host; may be repeated";
-    valued(alloc, "host", "host", "NAME", help).action(ArgAction::Append)
-}
-
-fn address<'a>(alloc: Global, word: &'static str, help: &'static str) -> Arg<'a> {
-    valued(alloc, "address", word, "ADDRESS", help).default_value("127.0.0.1")
-}
-
-/// An option with a value, found under a name and given by a word after two hyphens.
-fn valued<'a>(
-    alloc: Global,
-    name: &'static str,
-    word: &'static str,
-    value: &'static str,
-    help: &'static str,
-) -> Arg<'a> {
-    Arg::new(alloc, name)
-        .long(word)
-        .value_name(value)
-        .help(help)
-}
-
-/// A flag, set by its word after two hyphens.
-fn flag<'a>(alloc: Global, word: &'static str, help: &'static str) -> Arg<'a> {
-    Arg::new(alloc, word)
-        .long(word)
-        .action(ArgAction::SetTrue)
-        .help(help)
+    let group = ArgGroup::new(alloc, name)
+        .multiple(takes_several)
+        .required(true)
+        .args(options)?;
+    command.group(group)
 }

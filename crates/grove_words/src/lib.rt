@@ -8,6 +8,7 @@ pub use order::{
     SyncEach, Workers,
 };
 
+mod arguments;
 mod command_line;
 mod definitions;
 mod hosts;

@@ -5,7 +5,7 @@ use std::alloc::{AllocError, Global};
 /// The number of workers where the words don't say it, and the greatest.
 const FEW_WORKERS: u32 = 4;
 
-const MOST_WORKERS: u32 = 16;
+pub const MOST_WORKERS: u32 = 16;
 
 /// How many connections over HTTP are served at once where the words don't say it.
 const HTTP_SEATS: u32 = 64;

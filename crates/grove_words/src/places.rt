@@ -29,10 +29,10 @@ fn address_in(
     option: &str,
     given: &ArgMatches<'_>,
 ) -> Result<IpAddr, Error> {
-    match given.get_one::<IpAddr>("address") {
+    match given.get_one::<IpAddr>(option) {
         Some(address) => Ok(address),
         None => {
-            let value = given.get_str("address").unwrap_or("");
+            let value = given.get_str(option).unwrap_or("");
             let told = format!(in alloc;
                 "invalid value '{value}' for '--{option} <ADDRESS>': an IP address is needed, without a port, \
                  as 127.0.0.1 or ::1"
