@@ -144,6 +144,11 @@ LIMITS = [
         [("docs/SESSIONS.md", "`--idle SECONDS`, from 1 to {},")],
     ),
     (
+        "crates/grove_words/src/definitions.rt",
+        "LAST_PORT",
+        [("docs/COMMANDS.md", "the port to listen on, 1 to {}, or")],
+    ),
+    (
         "crates/grove/src/serving.rt",
         "SLOTS",
         [
@@ -206,7 +211,11 @@ LIMITS = [
             ("docs/DECISIONS.md", "up to 16 with at most {} bytes; each"),
         ],
     ),
-    ("crates/grove_desk/src/pipeline.rt", "SHORT_LINE", [("docs/DECISIONS.md", "if the line has more than {} bytes.")]),
+    (
+        "crates/grove_line/src/line_reader.rt",
+        "MOST_KEPT",
+        [("docs/OPERATING.md", "for lines, {} for what reads them")],
+    ),
     ("crates/grove_desk/src/desk.rt", "ALONE", [("docs/DECISIONS.md", "has put lines {} times in a row")]),
     (
         "crates/grove_page/src/service.rt",
@@ -494,9 +503,4 @@ LIMITS = [
     ("tools/prove", r"\bmemory_each=(\d+)000000\b", [("docs/VERIFY.md", "memory for ({} GB each")]),
     ("examples/quotas.draw.txt", r"document's plan: cost (\d+)", [("README.md", "held to the end cost {}, and")]),
     ("examples/quotas.draw.txt", r"settled plan: cost (\d+)", [("README.md", "plan below that costs {}]")]),
-    (
-        "crates/grove_words/src/definitions.rt",
-        r"u16\)\.range\(1\.\.=(\d+)\)",
-        [("docs/COMMANDS.md", "the port to listen on, 1 to {}, or")],
-    ),
 ]

@@ -129,7 +129,7 @@ names_kept (round ∷ rounds) last leads = names_kept rounds last leads.1
     ∙ (round_keeps round.before _ _ (store_before rounds last) leads.0.round).0.names
 
 -- a store that rounds lead to has the names of the opening store
-led_names : (opening last : StoreState) → Led opening last → unweighed last.rows ≡ unweighed opening.rows
+pub led_names : (opening last : StoreState) → Led opening last → unweighed last.rows ≡ unweighed opening.rows
 led_names opening last led = names_kept led.rounds last led.leads ∙ ap (λ (s : StoreState). unweighed s.rows) led.begins
 
 -- a receipt of a round is reached where lawful rounds lead to the store before it, by that round

@@ -5,12 +5,11 @@ use denote.Struct.Declared.{shape}
 use denote.Param.Send.{IsSend, IsSync, AllSend, AllSync, sendable, struct_send, struct_sync, recorded_send}
 use denote.Param.Send.{recorded_sync, view_send, view_sync}
 use Rattle.std.proofs.Crossing.{crosses, Vec-send}
-use Rattle.std.proofs.MapsCrossing.{String-send, BTreeMap-send}
 use Rattle.grove_tree.proofs.outline.Outline.TheLaws.TheKnot.{send-Outline, sync-Outline}
-use Rattle.serde_json.proofs.value.Value.TheLaws.TheKnot.{send-Value}
-use Rattle.grove_wire.specs.contracts.line.Kept as Kept
-use Rattle.grove_wire.specs.contracts.line.Line as Line
-use Rattle.grove_wire.specs.contracts.line.Line.TheInside as LineInside
+use Rattle.grove_wire.specs.contracts.request.Request as Request
+use Rattle.grove_line.specs.declared.line.Trees as trees
+use Rattle.grove_line.specs.contracts.line.Line as Line
+use Rattle.grove_line.specs.contracts.line.Line.TheInside as LineInside
 use Rattle.grove_tree.specs.contracts.name.Name as Name
 use Rattle.grove_tree.specs.contracts.outline.Outline as Outline
 use Rattle.grove_desk.specs.declared.opening.Opening as opening
@@ -25,6 +24,8 @@ use Rattle.std.specs.contracts.sync.Mutex as Mutex
 use Rattle.grove_desk.specs.contracts.receipt.Receipt as Receipt
 use Rattle.grove_desk.specs.contracts.desk_receipt.DeskReceipt as DeskReceipt
 use Rattle.grove_desk.specs.contracts.desk_receipt.DeskReceipt.TheInside as ReceiptInside
+use Rattle.grove_desk.specs.contracts.door.Door as Door
+use Rattle.grove_desk.specs.contracts.door.Door.TheInside as DoorInside
 use Rattle.grove_desk.specs.contracts.slot.Slot as Slot
 use Rattle.grove_desk.specs.contracts.bells.Bells as Bells
 use Rattle.grove_desk.specs.contracts.ledger.Ledger as Ledger
@@ -58,18 +59,22 @@ Journal-send = search (sendable, crosses, Store-send) depth 60 fits 4000
 Receipt-send : IsSend (Receipt.the_field).row
 Receipt-send = search (sendable, crosses) depth 60 fits 4000
 
--- a line with what was read of it does too
-Kept-send : IsSend (Kept.the_field).row
-Kept-send = search (sendable, crosses, String-send, BTreeMap-send, send-Value) depth 80 fits 8000
+-- what a line asks for does too, and so does the line
+Request-send : IsSend (Request.the_field).row
+Request-send = search (sendable, crosses) depth 80 fits 8000
 
-LineInside-send : IsSend LineInside.the_row
-LineInside-send =
-    let each : AllSend (shape LineInside.the_type).fields =
-    (Vec-send u8 (search (sendable, crosses)), (Kept-send, tt)) in
-    recorded_send _ _ _ LineInside.the_type.to_one (struct_send (shape LineInside.the_type) each)
+module _ (T : RattleType) (included : trees.Ghosts T.Denot) where
+  LineInside-send : IsSend (LineInside.the_row T included)
+  LineInside-send =
+      let each : AllSend (shape (LineInside.the_type T included)).fields = (
+        Vec-send u8 (search (sendable, crosses)),
+        (search (sendable, crosses, Request-send) depth 80 fits 8000, (search (sendable, crosses), tt)),
+      ) in
+      recorded_send _ _ _ (LineInside.the_type T included).to_one
+      (struct_send (shape (LineInside.the_type T included)) each)
 
-Line-send : IsSend Line.the_row
-Line-send = view_send _ _ _ _ _ LineInside-send
+  Line-send : IsSend (Line.the_row T included)
+  Line-send = view_send _ _ _ _ _ LineInside-send
 
 Numbers-send : IsSend (Vec.the_row u64 Heap.the_row ghosts)
 Numbers-send = Vec-send u64 (search (sendable, crosses))
@@ -132,13 +137,22 @@ module _ (B K : RattleType) (picked : opening.Ghosts B.Denot) (keeps : keeper.Gh
       recorded_send _ _ _ (Board.the_type B K picked keeps).to_one
       (struct_send (shape (Board.the_type B K picked keeps)) each)
 
+  DoorInside-sync : IsSync (DoorInside.the_row B picked)
+  DoorInside-sync =
+      let each : AllSync (shape (DoorInside.the_type B picked)).fields =
+      (search (sendable, crosses, Outline-sync) depth 60 fits 4000, (search (sendable, crosses), tt)) in
+      recorded_sync _ _ _ (DoorInside.the_type B picked).to_one (struct_sync (shape (DoorInside.the_type B picked)) each)
+
+  Door-sync : IsSync (Door.the_row B picked)
+  Door-sync = view_sync _ _ _ _ _ DoorInside-sync
+
   DeskInside-sync : IsSync (DeskInside.the_row B K picked keeps)
   DeskInside-sync =
       let lock : IsSync (Mutex.the_row (Board.the_row B K picked keeps)) =
       search (sendable, crosses, Board-send) depth 60 fits 4000 in
       let each : AllSync (shape (DeskInside.the_type B K picked keeps)).fields = (
         search (sendable, crosses),
-        (lock, (Bells-sync, (search (sendable, crosses), (search (sendable, crosses), tt)))),
+        (lock, (Bells-sync, (search (sendable, crosses), (search (sendable, crosses), (Door-sync, tt))))),
       ) in
       recorded_sync _ _ _ (DeskInside.the_type B K picked keeps).to_one
       (struct_sync (shape (DeskInside.the_type B K picked keeps)) each)

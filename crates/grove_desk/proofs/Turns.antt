@@ -13,7 +13,7 @@ use Rattle.std.proofs.lemmas.List.{drop-map, drop-drop, drop-append-le, take-app
 use Rattle.std.proofs.lemmas.List.Elements.{All-append}
 use Rattle.std.proofs.Math.Seq.{take-add, take-length, drop-append_seam}
 use Rattle.grove_store.specs.StoreStates.{StoreState, IsSuccessor}
-use Rattle.grove_desk.specs.declared.asked.Asked.{Asked}
+use Rattle.grove_line.specs.declared.asked.Asked.{Asked}
 use Rattle.grove_desk.specs.Receipts.{ReceiptState, AreNumberedFrom, number_at}
 use Rattle.grove_desk.specs.Histories.{RoundState, IsRound, store_before, Leads, Led, IsKept, IsDeskReceipt}
 use Rattle.grove_desk.specs.Histories.{receipts_in}
@@ -178,7 +178,7 @@ some_receipts before after [] round = round.round.answered.0
 some_receipts before after (receipt ∷ receipts) round = omega arith
 
 -- a first round
-pub in_turn : (before after : StoreState) (journal noted : Option JournalState) (old new : List Asked)
+pub in_turn : {T : Type 0} (before after : StoreState) (journal noted : Option JournalState) (old new : List (Asked T))
     (receipts : List ReceiptState) → AreAnswered before after old new receipts
     → noted ≡ option_map (noted_in (record { before = before; receipts = receipts })) journal
     → AreAnsweredInTurn before after journal noted old new receipts
@@ -195,20 +195,20 @@ in_turn before after journal noted old new receipts are is =
     }
 
 -- and a round more over the lines that were left
-pub in_turn_more : (before middle after : StoreState) (journal noted later : Option JournalState)
-    (old now new rest : List Asked) (receipts more : List ReceiptState)
+pub in_turn_more : {T : Type 0} (before middle after : StoreState) (journal noted later : Option JournalState)
+    (old now new rest : List (Asked T)) (receipts more : List ReceiptState)
     → AreAnsweredInTurn before middle journal noted old now receipts
     → AreAnswered middle after (drop (length receipts) now) rest more
     → later ≡ option_map (noted_in (record { before = middle; receipts = more })) noted
     → drop (length receipts) new ≡ rest
     → AreAnsweredInTurn before after journal later old new (receipts ++ more)
-in_turn_more before middle after journal noted later old now new rest receipts more turn are is back =
+in_turn_more {T} before middle after journal noted later old now new rest receipts more turn are is back =
     let it : RoundState = record { before = middle; receipts = more } in
     let long : length (receipts ++ more) ≡ length receipts + length more = length-append receipts more in
     let line : ReceiptState → List ℕ = λ (receipt : ReceiptState). receipt.line in
-    let asked : Asked → List ℕ = λ (asked : Asked). asked.line in
+    let asked : Asked T → List ℕ = λ (asked : Asked T). asked.line in
     let behind : map line more ≡ take (length more) (drop (length receipts) (map asked old)) =
-    are.lines ∙ ap (λ (ls : List Asked). take (length more) (map asked ls)) turn.left
+    are.lines ∙ ap (λ (ls : List (Asked T)). take (length more) (map asked ls)) turn.left
     ∙ ap (take (length more)) (sym (drop-map asked (length receipts) old)) in
     record {
       rounds = turn.rounds ++ it ∷ [];
@@ -227,7 +227,7 @@ in_turn_more before middle after journal noted later old now new rest receipts m
     }
 
 -- the numbers of a round more go on
-pub numbered_on : (before middle : StoreState) (journal noted : Option JournalState) (old now : List Asked)
+pub numbered_on : {T : Type 0} (before middle : StoreState) (journal noted : Option JournalState) (old now : List (Asked T))
     (receipts more : List ReceiptState) → AreAnsweredInTurn before middle journal noted old now receipts
     → AreNumberedFrom (next_number journal) receipts → AreNumberedFrom (next_number noted) more
     → AreNumberedFrom (next_number journal) (receipts ++ more)
@@ -239,20 +239,20 @@ numbered_on before middle journal noted old now receipts more turn are next =
     are next
 
 -- a round has no more receipts than lines
-pub few_receipts : (before after : StoreState) (lines new : List Asked) (receipts : List ReceiptState)
+pub few_receipts : {T : Type 0} (before after : StoreState) (lines new : List (Asked T)) (receipts : List ReceiptState)
     → AreAnswered before after lines new receipts → length receipts ≤ length lines
-few_receipts before after lines new receipts are =
-    let cut = ap length are.lines ∙ length-take (length receipts) (map (λ (asked : Asked). asked.line) lines) in
+few_receipts {T} before after lines new receipts are =
+    let cut = ap length are.lines ∙ length-take (length receipts) (map (λ (asked : Asked T). asked.line) lines) in
     let told = length-map receipts (λ (receipt : ReceiptState). receipt.line) in
-    let asked = length-map lines (λ (asked : Asked). asked.line) in
+    let asked = length-map lines (λ (asked : Asked T). asked.line) in
     omega arith
 
 -- what is answered of a front of the lines is answered of them all
-pub answered_front : (before after : StoreState) (front part back : List Asked) (receipts : List ReceiptState)
+pub answered_front : {T : Type 0} (before after : StoreState) (front part back : List (Asked T)) (receipts : List ReceiptState)
     → length part ≡ length front → AreAnswered before after front part receipts
     → AreAnswered before after (front ++ back) (part ++ back) receipts
-answered_front before after front part back receipts same are =
-    let asked : Asked → List ℕ = λ (asked : Asked). asked.line in
+answered_front {T} before after front part back receipts same are =
+    let asked : Asked T → List ℕ = λ (asked : Asked T). asked.line in
     let few = few_receipts before after front part receipts are in
     let long = length-map front asked in
     record {
@@ -260,64 +260,64 @@ answered_front before after front part back receipts same are =
           ∙ take-append-le (length receipts) (map asked front) (map asked back) (omega arith));
       round = are.round;
       left = drop-append-le (length receipts) part back (omega arith)
-          ∙ ap (λ (ls : List Asked). ls ++ back) are.left
+          ∙ ap (λ (ls : List (Asked T)). ls ++ back) are.left
           ∙ sym (drop-append-le (length receipts) front back few);
     }
 
 -- so it is of lines of which so many were answered apart
-pub answered_part : (before after : StoreState) (lines part : List Asked) (count : ℕ) (receipts : List ReceiptState)
+pub answered_part : {T : Type 0} (before after : StoreState) (lines part : List (Asked T)) (count : ℕ) (receipts : List ReceiptState)
     → length part ≡ length (take count lines) → AreAnswered before after (take count lines) part receipts
     → AreAnswered before after lines (part ++ drop count lines) receipts
-answered_part before after lines part count receipts same are =
-    subst (λ (ls : List Asked). AreAnswered before after ls (part ++ drop count lines) receipts)
+answered_part {T} before after lines part count receipts same are =
+    subst (λ (ls : List (Asked T)). AreAnswered before after ls (part ++ drop count lines) receipts)
     (take-append-drop count lines)
     (answered_front before after (take count lines) part (drop count lines) receipts same are)
 
 -- tickets of a part that stay
-pub tickets_part : (lines part : List Asked) (count : ℕ)
+pub tickets_part : {T : Type 0} (lines part : List (Asked T)) (count : ℕ)
     → map (λ asked. asked.ticket) part ≡ map (λ asked. asked.ticket) (take count lines)
     → map (λ asked. asked.ticket) (part ++ drop count lines) ≡ map (λ asked. asked.ticket) lines
-tickets_part lines part count same =
-    let ticket : Asked → ℕ = λ (asked : Asked). asked.ticket in
+tickets_part {T} lines part count same =
+    let ticket : Asked T → ℕ = λ (asked : Asked T). asked.ticket in
     map-append ticket part (drop count lines) ∙ ap (λ (ts : List ℕ). ts ++ map ticket (drop count lines)) same
     ∙ sym (map-append ticket (take count lines) (drop count lines)) ∙ ap (map ticket) (take-append-drop count lines)
 
 -- what a part of the lines holds, once it was put back behind the first ones
-pub put_behind : (lines rest : List Asked) (done : ℕ) → done ≤ length lines
+pub put_behind : {T : Type 0} (lines rest : List (Asked T)) (done : ℕ) → done ≤ length lines
     → drop done (take done lines ++ (rest ++ drop (length lines - done) (drop done lines))) ≡ rest
-put_behind lines rest done within =
+put_behind {T} lines rest done within =
     let front : length (take done lines) ≡ done = length-take-le done lines within in
     let none : drop (length lines - done) (drop done lines) ≡ [] = drop_all (length lines - done) (drop done lines)
     (let long = length-drop done lines in omega arith) in
     subst (λ (n : ℕ). drop n (take done lines ++ (rest ++ drop (length lines - done) (drop done lines))) ≡ rest) front
     (drop-append_seam (take done lines) (rest ++ drop (length lines - done) (drop done lines))
-    ∙ ap (λ (ls : List Asked). rest ++ ls) none ∙ append-nil rest)
+    ∙ ap (λ (ls : List (Asked T)). rest ++ ls) none ∙ append-nil rest)
 
 -- the lines from a place on are all that are behind it
-pub all_behind : (lines : List Asked) (done : ℕ) → take (length lines - done) (drop done lines) ≡ drop done lines
+pub all_behind : {T : Type 0} (lines : List (Asked T)) (done : ℕ) → take (length lines - done) (drop done lines) ≡ drop done lines
 all_behind lines done =
     ap (λ (n : ℕ). take n (drop done lines)) (sym (length-drop done lines)) ∙ take-length (drop done lines)
 
 -- tickets of lines that stay, of which the last were put back
-pub tickets_behind : (lines rest : List Asked) (done : ℕ)
+pub tickets_behind : {T : Type 0} (lines rest : List (Asked T)) (done : ℕ)
     → map (λ asked. asked.ticket) rest ≡ map (λ asked. asked.ticket) (drop done lines)
     → map (λ asked. asked.ticket) (take done lines ++ (rest ++ drop (length lines - done) (drop done lines)))
     ≡ map (λ asked. asked.ticket) lines
-tickets_behind lines rest done same =
-    let ticket : Asked → ℕ = λ (asked : Asked). asked.ticket in
+tickets_behind {T} lines rest done same =
+    let ticket : Asked T → ℕ = λ (asked : Asked T). asked.ticket in
     let none : drop (length lines - done) (drop done lines) ≡ [] = drop_all (length lines - done) (drop done lines)
     (let long = length-drop done lines in omega arith) in
-    ap (λ (ls : List Asked). map ticket (take done lines ++ (rest ++ ls))) none
-    ∙ ap (λ (ls : List Asked). map ticket (take done lines ++ ls)) (append-nil rest)
+    ap (λ (ls : List (Asked T)). map ticket (take done lines ++ (rest ++ ls))) none
+    ∙ ap (λ (ls : List (Asked T)). map ticket (take done lines ++ ls)) (append-nil rest)
     ∙ map-append ticket (take done lines) rest
     ∙ ap (λ (ts : List ℕ). map ticket (take done lines) ++ ts) same
     ∙ sym (map-append ticket (take done lines) (drop done lines)) ∙ ap (map ticket) (take-append-drop done lines)
 
 -- lines with the same tickets are as many
-pub same_long : (lines new : List Asked) → map (λ asked. asked.ticket) new ≡ map (λ asked. asked.ticket) lines
+pub same_long : {T : Type 0} (lines new : List (Asked T)) → map (λ asked. asked.ticket) new ≡ map (λ asked. asked.ticket) lines
     → length new ≡ length lines
-same_long lines new same =
-    let ticket : Asked → ℕ = λ (asked : Asked). asked.ticket in
+same_long {T} lines new same =
+    let ticket : Asked T → ℕ = λ (asked : Asked T). asked.ticket in
     sym (length-map new ticket) ∙ ap (λ (ts : List ℕ). length ts) same ∙ length-map lines ticket
 
 -- receipts that are put behind others, for which there is room
@@ -332,16 +332,16 @@ put_together (Ok x) (Ok y) old was more now len many capacity well room few same
     is ∙ ap (λ (rs : List ReceiptState). rs ++ more) same
 
 -- a part that is as it was leaves the lines as they were
-pub part_same : (lines part : List Asked) (count : ℕ) → part ≡ take count lines → part ++ drop count lines ≡ lines
-part_same lines part count same =
-    ap (λ (ls : List Asked). ls ++ drop count lines) same ∙ take-append-drop count lines
+pub part_same : {T : Type 0} (lines part : List (Asked T)) (count : ℕ) → part ≡ take count lines → part ++ drop count lines ≡ lines
+part_same {T} lines part count same =
+    ap (λ (ls : List (Asked T)). ls ++ drop count lines) same ∙ take-append-drop count lines
 
 -- and so does one that was put back behind the first ones
-pub behind_same : (lines rest : List Asked) (done : ℕ) → rest ≡ take (length lines - done) (drop done lines)
+pub behind_same : {T : Type 0} (lines rest : List (Asked T)) (done : ℕ) → rest ≡ take (length lines - done) (drop done lines)
     → take done lines ++ (rest ++ drop (length lines - done) (drop done lines)) ≡ lines
-behind_same lines rest done same =
-    ap (λ (ls : List Asked). take done lines ++ (ls ++ drop (length lines - done) (drop done lines))) same
-    ∙ ap (λ (ls : List Asked). take done lines ++ ls) (take-append-drop (length lines - done) (drop done lines))
+behind_same {T} lines rest done same =
+    ap (λ (ls : List (Asked T)). take done lines ++ (ls ++ drop (length lines - done) (drop done lines))) same
+    ∙ ap (λ (ls : List (Asked T)). take done lines ++ ls) (take-append-drop (length lines - done) (drop done lines))
     ∙ take-append-drop done lines
 
 -- what holds on an error, where there is one
@@ -354,14 +354,14 @@ was_err (Ok x) P other is = absurd (other x refl)
 was_err (Err e) P other is = is
 
 -- the same of stores, journals, lines and receipts that are the same
-pub in_turn_same : (before middle after : StoreState) (journal noted later : Option JournalState)
-    (old now new : List Asked) (receipts all : List ReceiptState) → after ≡ middle → later ≡ noted → new ≡ now
+pub in_turn_same : {T : Type 0} (before middle after : StoreState) (journal noted later : Option JournalState)
+    (old now new : List (Asked T)) (receipts all : List ReceiptState) → after ≡ middle → later ≡ noted → new ≡ now
     → all ≡ receipts → AreAnsweredInTurn before middle journal noted old now receipts
     → AreAnsweredInTurn before after journal later old new all
-in_turn_same before middle after journal noted later old now new receipts all stores journals lines told turn =
+in_turn_same {T} before middle after journal noted later old now new receipts all stores journals lines told turn =
     subst (λ (s : StoreState). AreAnsweredInTurn before s journal later old new all) (sym stores)
     (subst (λ (j : Option JournalState). AreAnsweredInTurn before middle journal j old new all) (sym journals)
-    (subst (λ (ls : List Asked). AreAnsweredInTurn before middle journal noted old ls all) (sym lines)
+    (subst (λ (ls : List (Asked T)). AreAnsweredInTurn before middle journal noted old ls all) (sym lines)
     (subst (λ (rs : List ReceiptState). AreAnsweredInTurn before middle journal noted old now rs) (sym told) turn)))
 
 -- no journal

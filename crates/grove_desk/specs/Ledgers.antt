@@ -5,7 +5,7 @@ use Rattle.std.specs.Option.{option_map}
 use Rattle.grove_store.specs.StoreStates.{StoreState}
 use Rattle.grove_desk.specs.Receipts.{ReceiptState, AreNumberedFrom}
 use Rattle.grove_desk.specs.Histories.{RoundState, IsRound, Leads, Led, store_before, receipts_in}
-use Rattle.grove_desk.specs.declared.asked.Asked.{Asked}
+use Rattle.grove_line.specs.declared.asked.Asked.{Asked}
 
 -- every round since the opening, and the number of their lines, held at the greatest
 pub record JournalState : Type 0 where
@@ -69,14 +69,15 @@ pub record AreReceiptsOf (first : Option ℕ) (lines replies : List (List ℕ)) 
   pub numbered : AreNumberedFrom first receipts
 
 -- the first of the lines that were taken have these receipts, by one round, and the lines behind them are as they were
-pub record AreAnswered (before after : StoreState) (old new : List Asked) (receipts : List ReceiptState) : Type 0 where
+pub record AreAnswered {T : Type 0} (before after : StoreState) (old new : List (Asked T))
+    (receipts : List ReceiptState) : Type 0 where
   pub lines : map (λ receipt. receipt.line) receipts ≡ take (length receipts) (map (λ asked. asked.line) old)
   pub round : IsRound before receipts after
   pub left : drop (length receipts) new ≡ drop (length receipts) old
 
 -- rounds, one after the other, answer the first of the lines that were taken, and a journal has each
-pub record AreAnsweredInTurn (before after : StoreState) (journal later : Option JournalState) (old new : List Asked)
-    (receipts : List ReceiptState) : Type 0 where
+pub record AreAnsweredInTurn {T : Type 0} (before after : StoreState) (journal later : Option JournalState)
+    (old new : List (Asked T)) (receipts : List ReceiptState) : Type 0 where
   pub rounds : List RoundState
   pub leads : Leads rounds after
   pub begins : store_before rounds after ≡ before

@@ -29,6 +29,8 @@ pub(crate) struct Bells {
 pub(crate) struct Rings {
     /// Is there any?
     any: bool,
+    /// That of the caller who is to lead, by its ticket. It rings first: the other callers' next lines wait for it.
+    leader: Option<u64>,
     lines: [bool; LINE_BELLS],
     looks: bool,
     rounds: [bool; ROUND_BELLS],
@@ -58,15 +60,22 @@ impl Bells {
         if !rings.any {
             return;
         }
+        if let Some(ticket) = rings.leader {
+            self.of(ticket).notify_all();
+        }
+        self.ring_lines(rings);
+        if rings.looks {
+            self.looks.notify_all();
+        }
+        self.ring_rounds(rings);
+    }
+
+    fn ring_lines(&self, rings: &Rings) {
         for place in 0..LINE_BELLS {
             if rings.lines[place] {
                 self.lines[place].notify_all();
             }
         }
-        if rings.looks {
-            self.looks.notify_all();
-        }
-        self.ring_rounds(rings);
     }
 
     fn ring_rounds(&self, rings: &Rings) {
@@ -90,6 +99,7 @@ impl Rings {
     pub(crate) fn new(looks: bool) -> Rings {
         Rings {
             any: looks,
+            leader: None,
             lines: [false; LINE_BELLS],
             looks,
             rounds: [false; ROUND_BELLS],
@@ -100,6 +110,12 @@ impl Rings {
     pub(crate) fn add(&mut self, ticket: u64) {
         self.any = true;
         self.lines[place_of(ticket)] = true;
+    }
+
+    /// And the bell of the ticket whose caller is to lead.
+    pub(crate) fn add_leader(&mut self, ticket: u64) {
+        self.any = true;
+        self.leader = Some(ticket);
     }
 
     /// And the bell of those who wait for a round later than this one.

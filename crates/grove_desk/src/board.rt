@@ -2,9 +2,9 @@ ghost use Rattle.std.specs.Prelude.{◌≡◌, ◌<◌, [], length, All, IfOk, I
 ghost use Rattle.grove_desk.specs.Histories.{Led, IsKept, IsDeskReceipt};
 ghost use Rattle.grove_desk.specs.Boards.{Takes};
 
-use crate::asked::Asked;
 use crate::bells::Rings;
 use crate::desk_receipt::DeskReceipt;
+use crate::door::NamesOf;
 use crate::fault::NoReceipt;
 use crate::ledger::Ledger;
 use crate::pipeline::Pipeline;
@@ -13,9 +13,9 @@ use crate::state::State;
 use crate::turn::{Leading, Turn};
 use crate::{DeskFault, Opening, Receipt};
 use grove_build::PlanCounts;
+use grove_line::{Asked, Line};
 use grove_store::{Keeper, Store};
 use grove_tree::NoMemory;
-use grove_wire::Line;
 use std::alloc::Global;
 
 /// How many callers may wait with their lines, and the most lines that are answered in one round.
@@ -147,8 +147,10 @@ impl<B: Opening, K: Keeper + Drop> Board<B, K> {
         let mut is_led = !is_here || self.copies > 0;
         for slot in &self.slots {
             let waits = slot.lines.is_waiting();
-            if slot.lines.is_settled() || waits && !is_led {
+            if slot.lines.is_settled() {
                 rings.add(slot.ticket);
+            } else if waits && !is_led {
+                rings.add_leader(slot.ticket);
             }
             is_led |= waits;
         }
@@ -188,7 +190,7 @@ impl<B: Opening, K: Keeper + Drop> Board<B, K> {
         ticket: u64,
         may_go: bool,
         leading: Leading,
-        taken: &mut Vec<Asked>,
+        taken: &mut Vec<Asked<NamesOf<B>>>,
     ) -> Turn<Pipeline<B, K>, Ledger<B, K>>
         requires { taken.old.items ≡ [] }
         ensures { Takes result taken.new.items }
@@ -215,7 +217,7 @@ impl<B: Opening, K: Keeper + Drop> Board<B, K> {
 
     /// Takes the store with the lines that wait, where both are here: the first ones of all callers, then the second
     /// ones, and so on, as many as there is room for.
-    fn take(&mut self, leading: Leading, taken: &mut Vec<Asked>) -> Option<Ledger<B, K>>
+    fn take(&mut self, leading: Leading, taken: &mut Vec<Asked<NamesOf<B>>>) -> Option<Ledger<B, K>>
         requires { taken.old.items ≡ [] }
         ensures some { IfSome result (λ _. 0 < length taken.new.items) }
         ensures none { IfNone result (taken.new.items ≡ []) }
@@ -237,7 +239,7 @@ impl<B: Opening, K: Keeper + Drop> Board<B, K> {
     pub(crate) fn put_back(
         &mut self,
         ledger: Ledger<B, K>,
-        taken: &mut Vec<Asked>,
+        taken: &mut Vec<Asked<NamesOf<B>>>,
         answered: Result<Vec<Receipt>, NoReceipt>,
     )
         requires { IfOk answered (λ receipts. All (IsDeskReceipt K.stands_for B.store B.kept) receipts.items) }
@@ -255,7 +257,10 @@ impl<B: Opening, K: Keeper + Drop> Board<B, K> {
 }
 
 /// Takes the next line of each caller that waits, as many as there is room for.
-fn take_next<B: Opening, K: Keeper>(slots: &mut Vec<Slot<B, K>>, taken: &mut Vec<Asked>) {
+fn take_next<B: Opening, K: Keeper>(
+    slots: &mut Vec<Slot<B, K>>,
+    taken: &mut Vec<Asked<NamesOf<B>>>,
+) {
     for slot in slots.iter_mut() {
         if taken.len() == taken.capacity() {
             break;
@@ -272,7 +277,7 @@ fn take_next<B: Opening, K: Keeper>(slots: &mut Vec<Slot<B, K>>, taken: &mut Vec
 /// Leaves the first of the lines their receipts. The others wait again.
 fn settle_answered<B: Opening, K: Keeper>(
     slots: &mut Vec<Slot<B, K>>,
-    taken: &mut Vec<Asked>,
+    taken: &mut Vec<Asked<NamesOf<B>>>,
     receipts: Vec<Receipt>,
 )
     requires { All (IsDeskReceipt K.stands_for B.store B.kept) receipts.items }
@@ -288,7 +293,7 @@ fn settle_answered<B: Opening, K: Keeper>(
 /// Leaves each of the lines the refusal.
 fn settle_refused<B: Opening, K: Keeper>(
     slots: &mut Vec<Slot<B, K>>,
-    taken: &mut Vec<Asked>,
+    taken: &mut Vec<Asked<NamesOf<B>>>,
     why: NoReceipt,
 )
     ensures { taken.new.items ≡ [] }
@@ -299,7 +304,7 @@ fn settle_refused<B: Opening, K: Keeper>(
 }
 
 /// Where a line has got to that has this receipt, or none.
-fn state_of<B: Opening, K: Keeper>(receipt: Option<Receipt>, line: Line) -> State<B, K>
+fn state_of<B: Opening, K: Keeper>(receipt: Option<Receipt>, line: Line<NamesOf<B>>) -> State<B, K>
     requires { IfSome receipt (IsDeskReceipt K.stands_for B.store B.kept) }
 {
     match receipt {

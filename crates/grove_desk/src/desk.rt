@@ -8,9 +8,11 @@ ghost use Rattle.grove_desk.specs.Receipts.{ReceiptState, IsAllowed, IsForeignRe
 
 use crate::bells::Bells;
 use crate::board::Board;
+use crate::door::{Door, WhoReads};
+use crate::errand::Errand;
 use crate::fault::NoReceipt;
 use crate::ledger::Ledger;
-use crate::pipeline::{Pipeline, WhoReads};
+use crate::pipeline::Pipeline;
 use crate::turn::Leading;
 use crate::{DeskFault, Opening, Receipt, RoundWatch, Unwatched};
 pub use closing::Closed;
@@ -47,6 +49,7 @@ pub struct Desk<B: Opening, K: Keeper = InMemory> {
     large: Mutex<()>,
     /// So many times in a row lines were put with none of others on the board.
     alone: AtomicU64,
+    door: Door<B>,
 }
 
 impl<B: Opening, K: Keeper> Model for Desk<B, K> {
@@ -62,13 +65,14 @@ impl<B: Opening, K: Keeper> Model for Desk<B, K> {
 
 impl<B: Opening, K: Keeper + Drop> Desk<B, K> {
     /// A desk at which this store is shared, with what keeps it, and with a journal of every round where `kept` is set.
-    /// It takes no memory.
+    /// It copies the store's tree, so that callers read their own lines; without memory for that, who leads reads them.
     pub fn open(alloc: Global, store: Store, keeper: K, kept: bool) -> Self
         requires store { store ≡ B.store }
         requires kept { kept ≡ B.kept }
         requires stands { K.stands_for keeper store }
         ensures { result ≡ record { opening = store; kept = kept } }
     {
+        let door = Door::new(alloc, &store);
         let ledger = Ledger::new(alloc, store, keeper, kept);
         Desk {
             kept,
@@ -76,6 +80,7 @@ impl<B: Opening, K: Keeper + Drop> Desk<B, K> {
             bells: Bells::new(),
             large: Mutex::new(()),
             alone: AtomicU64::new(0),
+            door,
         }
     }
 
@@ -104,17 +109,8 @@ impl<B: Opening, K: Keeper + Drop> Desk<B, K> {
             → (receipt : ReceiptState) × IsDeskReceipt K.stands_for self.now.opening self.now.kept receipt
             × IsForeignReceipt self.now.kept line.now (option_copied seen.entry) receipt }
     {
-        let mut lines = None;
-        self.answer_next(
-            rt,
-            alloc,
-            &mut lines,
-            Leading::Once,
-            seen,
-            line,
-            gate,
-            &Unwatched,
-        )
+        let mut errand = Errand::new(Leading::Once);
+        self.answer_next(rt, alloc, &mut errand, seen, line, gate, &Unwatched)
     }
 
     /// The same of the next line of a visitor. If lines of it are left that were put together, it is the first of them.
@@ -123,8 +119,7 @@ impl<B: Opening, K: Keeper + Drop> Desk<B, K> {
         &self,
         rt: &R,
         alloc: Global,
-        lines: &mut Option<Pipeline<B, K>>,
-        leading: Leading,
+        errand: &mut Errand<B, K>,
         seen: Option<&Receipt>,
         line: &[u8],
         gate: &G,
@@ -136,7 +131,7 @@ impl<B: Opening, K: Keeper + Drop> Desk<B, K> {
         ensures foreign { result ≡ Err DeskFault.Foreign
             → AnswersAnother K.stands_for self.now line.now (option_copied seen.entry) }
     {
-        let receipt = self.receive(rt, alloc, lines, leading, line, gate, watch)?;
+        let receipt = self.receive(rt, alloc, errand, line, gate, watch)?;
         if receipt.is_of(line) && receipt.follows(seen, self.kept) {
             Ok(receipt)
         } else {
@@ -150,8 +145,7 @@ impl<B: Opening, K: Keeper + Drop> Desk<B, K> {
         &self,
         rt: &R,
         alloc: Global,
-        lines: &mut Option<Pipeline<B, K>>,
-        leading: Leading,
+        errand: &mut Errand<B, K>,
         line: &[u8],
         gate: &G,
         watch: &W,
@@ -160,24 +154,58 @@ impl<B: Opening, K: Keeper + Drop> Desk<B, K> {
         ensures receipt { IfOk result (IsDeskReceipt K.stands_for B.store B.kept) }
         ensures foreign { result ≡ Err DeskFault.Foreign → ⊥ }
     {
-        if let Some(done) = settled_first(lines) {
+        if let Some(done) = settled_first(&mut errand.lines) {
             return Ok(done?);
         }
+        let leading = errand.leading;
         let _turn = if line.len() > LARGE_LINE {
             Some(self.large.lock(rt))
         } else {
             None
         };
         let mut taken = Vec::with_capacity(alloc, leading.most_taken())?;
-        let put = lines_to_put(alloc, lines, line, self.who_reads())?;
+        let put = self.lines_to_put(alloc, errand, line)?;
         let (ticket, turn) = self.put(rt, put, leading, &mut taken)?;
         let (first, rest) = self.attend(rt, alloc, ticket, turn, leading, &mut taken, gate, watch);
-        *lines = Some(rest);
+        errand.lines = Some(rest);
         Ok(first?)
     }
 
+    /// The lines that are left, or else a copy of this one.
+    fn lines_to_put(
+        &self,
+        alloc: Global,
+        errand: &mut Errand<B, K>,
+        line: &[u8],
+    ) -> Result<Pipeline<B, K>, NoMemory>
+        requires { length line.now ≤ LINE_LIMIT }
+    {
+        match errand.lines.take() {
+            Some(left) if !left.is_empty() => Ok(left),
+            _ => Pipeline::of_line(
+                alloc,
+                &self.door,
+                &mut errand.reader,
+                self.who_reads(),
+                line,
+            ),
+        }
+    }
+
+    /// Puts the whole lines at the front of the bytes together for a visitor, unless lines of it are left.
+    pub(crate) fn look_ahead(&self, alloc: Global, errand: &mut Errand<B, K>, bytes: &[u8]) {
+        if errand.has_lines() {
+            return;
+        }
+        let reads = self.who_reads();
+        let lines = Pipeline::of_bytes(alloc, &self.door, &mut errand.reader, reads, bytes);
+        if let Ok(lines) = lines {
+            errand.lines = Some(lines);
+        }
+    }
+
     /// Who reads lines that are put now: their caller, unless it seems to be the only one.
-    pub(crate) fn who_reads(&self) -> WhoReads {
+    fn who_reads(&self) -> WhoReads {
         if self.alone.load(Ordering::Relaxed) < ALONE {
             WhoReads::Caller
         } else {
@@ -225,21 +253,5 @@ fn settled_first<B: Opening, K: Keeper>(
     match lines {
         Some(lines) => lines.take_first(),
         None => None,
-    }
-}
-
-/// The lines that are left, or else a copy of this one.
-fn lines_to_put<B: Opening, K: Keeper>(
-    alloc: Global,
-    lines: &mut Option<Pipeline<B, K>>,
-    line: &[u8],
-    reads: WhoReads,
-) -> Result<Pipeline<B, K>, NoMemory>
-    requires { length line.now ≤ LINE_LIMIT }
-    ensures { lines.new ≡ None }
-{
-    match lines.take() {
-        Some(left) if !left.is_empty() => Ok(left),
-        _ => Pipeline::of_line(alloc, line, reads),
     }
 }

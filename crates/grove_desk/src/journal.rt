@@ -1,13 +1,15 @@
 ghost use Rattle.std.specs.Prelude.{◌≡◌, [], Some, ◌<◌, ◌≤◌, ◌↔◌, length, map, All, IsTrue, IfOk, IfErr};
 ghost use Rattle.std.specs.Prelude.{OnErr};
+ghost use Rattle.grove_tree.specs.Weights.{unweighed};
 ghost use Rattle.grove_desk.specs.Receipts.{AreNumberedFrom};
 ghost use Rattle.grove_desk.specs.Histories.{StandsIn, Ascend};
 ghost use Rattle.grove_desk.specs.Ledgers.{noted_in, AreAnswered};
 
-use crate::Receipt;
 use crate::answering::answer_taken;
-use crate::asked::Asked;
+use crate::door::NamesOf;
 use crate::standing::{ascend, stand};
+use crate::{Opening, Receipt};
+use grove_line::Asked;
 use grove_store::Store;
 use grove_tree::{Gate, NoMemory};
 use std::alloc::Global;
@@ -72,15 +74,16 @@ impl Journal {
 
     /// Answers the first of the lines in one round of the store, and notes it. Where memory is refused, both are as
     /// they were: a copy of the store is made first, and comes back.
-    pub(crate) fn answer<R: Threads + Wait + Sync, G: Gate + Sync>(
+    pub(crate) fn answer<B: Opening, R: Threads + Wait + Sync, G: Gate + Sync>(
         &mut self,
         rt: &R,
         alloc: Global,
         store: &mut Store,
-        taken: &mut [Asked],
+        taken: &mut [Asked<NamesOf<B>>],
         gate: &G,
     ) -> Result<Vec<Receipt>, NoMemory>
-        requires { (0 < length taken.old) × (length taken.old ≤ 16) }
+        requires few { (0 < length taken.old) × (length taken.old ≤ 16) }
+        requires names { unweighed store.old.rows ≡ unweighed B.store.rows }
         ensures answered { IfOk result
             (λ receipts. AreAnswered store.old store.new taken.old taken.new receipts.items) }
         ensures numbered { IfOk result (λ receipts. AreNumberedFrom (Some self.old.lines) receipts.items) }

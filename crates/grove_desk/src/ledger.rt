@@ -3,12 +3,13 @@ ghost use Rattle.std.specs.Vec.{vec_capacity};
 ghost use Rattle.grove_desk.specs.Histories.{Led, IsKept, IsDeskReceipt};
 ghost use Rattle.grove_desk.specs.Ledgers.{IsJournalOf, AreAnsweredInTurn};
 
-use crate::asked::Asked;
+use crate::door::NamesOf;
 use crate::fault::NoReceipt;
 use crate::journal::Journal;
 use crate::rounds::answer_rounds;
 use crate::{DeskFault, Opening, Receipt, RoundWatch};
 use grove_build::PlanCounts;
+use grove_line::Asked;
 use grove_store::{Keeper, Store, Unkept};
 use grove_tree::Gate;
 use std::alloc::Global;
@@ -127,7 +128,7 @@ impl<B: Opening, K: Keeper> Ledger<B, K> {
         &mut self,
         rt: &R,
         alloc: Global,
-        taken: &mut Vec<Asked>,
+        taken: &mut Vec<Asked<NamesOf<B>>>,
         gate: &G,
         watch: &W,
     ) -> Result<Vec<Receipt>, NoReceipt>

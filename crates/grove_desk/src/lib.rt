@@ -13,12 +13,13 @@ pub use visit::{Visit, desk_session};
 pub use watch::{RoundWatch, Unwatched};
 
 mod answering;
-mod asked;
 mod awaited;
 mod bells;
 mod board;
 mod desk;
 mod desk_receipt;
+mod door;
+mod errand;
 mod fault;
 mod journal;
 mod ledger;

@@ -2,12 +2,13 @@ ghost use Rattle.std.specs.Prelude.{◌<◌, ◌≤◌, ◌↔◌, length, IsTru
 ghost use Rattle.grove_session.specs.declared.answers.TheConstants.{LINE_LIMIT};
 ghost use Rattle.grove_desk.specs.Histories.{IsDeskReceipt};
 
+use crate::door::{Door, NamesOf, WhoReads};
 use crate::fault::NoReceipt;
 use crate::state::State;
 use crate::{Opening, Receipt};
+use grove_line::{Line, LineReader};
 use grove_store::Keeper;
 use grove_tree::NoMemory;
-use grove_wire::Line;
 use memchr::memchr;
 use std::alloc::Global;
 use std::mem;
@@ -17,18 +18,6 @@ pub(crate) const MOST_TOGETHER: usize = 16;
 
 /// They have no more bytes together, with a line feed each.
 const MOST_BYTES: usize = 64 * 1024;
-
-/// A line with no more bytes is read by who leads: about as fast as it could look up the paths of what was read ahead.
-const SHORT_LINE: usize = 1024;
-
-/// Who reads a line that isn't short.
-#[derive(Clone, Copy, Debug, PartialEq, Eq)]
-pub(crate) enum WhoReads {
-    /// Its caller does before it puts it, as far as that takes no tree. So who leads has less to do.
-    Caller,
-    /// Who leads does, in the line's turn.
-    Leader,
-}
 
 /// Lines of a visitor that are put together, in order. Each is answered after those before it, and none after one that
 /// has no receipt.
@@ -43,11 +32,17 @@ pub(crate) struct Pipeline<B: Opening, K: Keeper> {
 
 impl<B: Opening, K: Keeper> Pipeline<B, K> {
     /// A copy of one line.
-    pub(crate) fn of_line(alloc: Global, line: &[u8], reads: WhoReads) -> Result<Self, NoMemory>
+    pub(crate) fn of_line(
+        alloc: Global,
+        door: &Door<B>,
+        reader: &mut LineReader,
+        reads: WhoReads,
+        line: &[u8],
+    ) -> Result<Self, NoMemory>
         requires { length line.now ≤ LINE_LIMIT }
     {
         let mut lines = Vec::with_capacity(alloc, 1)?;
-        lines.push(State::Waiting(read_line(alloc, line, reads)?))?;
+        lines.push(State::Waiting(door.line(alloc, reader, reads, line)?))?;
         Ok(Pipeline {
             lines,
             taken: 0,
@@ -57,7 +52,13 @@ impl<B: Opening, K: Keeper> Pipeline<B, K> {
 
     /// Copies of the whole lines at the front of the bytes: as many as are put together, up to the first that is too
     /// long for that.
-    pub(crate) fn of_bytes(alloc: Global, bytes: &[u8], reads: WhoReads) -> Result<Self, NoMemory> {
+    pub(crate) fn of_bytes(
+        alloc: Global,
+        door: &Door<B>,
+        reader: &mut LineReader,
+        reads: WhoReads,
+        bytes: &[u8],
+    ) -> Result<Self, NoMemory> {
         let mut lines = Vec::new(alloc);
         let mut room = MOST_BYTES;
         let mut rest = bytes;
@@ -65,7 +66,8 @@ impl<B: Opening, K: Keeper> Pipeline<B, K> {
             if lines.len() >= MOST_TOGETHER || length >= room {
                 break;
             }
-            lines.push(State::Waiting(read_line(alloc, &rest[..length], reads)?))?;
+            let line = door.line(alloc, reader, reads, &rest[..length])?;
+            lines.push(State::Waiting(line))?;
             room -= length + 1;
             rest = &rest[length + 1..];
         }
@@ -108,7 +110,7 @@ impl<B: Opening, K: Keeper> Pipeline<B, K> {
     }
 
     /// The first line that waits. It leaves then; lines before it may be out.
-    pub(crate) fn start(&mut self) -> Option<Line> {
+    pub(crate) fn start(&mut self) -> Option<Line<NamesOf<B>>> {
         let place = self.lines.iter().position(|state| state.is_waiting())?;
         match mem::replace(&mut self.lines[place], State::Running) {
             State::Waiting(line) => Some(line),
@@ -147,15 +149,4 @@ impl<B: Opening, K: Keeper> Pipeline<B, K> {
             State::Waiting(_) | State::Running | State::Taken => None,
         }
     }
-}
-
-/// A copy of the line, and what was read of it, if it is read ahead.
-fn read_line(alloc: Global, line: &[u8], reads: WhoReads) -> Result<Line, NoMemory>
-    requires { length line.now ≤ LINE_LIMIT }
-{
-    let mut copy = Line::copied(alloc, line)?;
-    if reads == WhoReads::Caller && line.len() > SHORT_LINE {
-        copy.read(alloc);
-    }
-    Ok(copy)
 }

@@ -1,14 +1,16 @@
 //! Rounds that follow one another over lines that left together.
 ghost use Rattle.std.specs.Prelude.{◌≡◌, ◌<◌, ◌≤◌, None, length, map, IfOk, OnErr};
 ghost use Rattle.std.specs.Option.{option_map};
+ghost use Rattle.grove_tree.specs.Weights.{unweighed};
 ghost use Rattle.grove_desk.specs.Receipts.{AreNumberedFrom};
 ghost use Rattle.grove_desk.specs.Ledgers.{noted_in, next_number, AreAnswered, AreAnsweredInTurn};
 
 use crate::answering::answer_taken;
-use crate::asked::Asked;
 use crate::board::MOST_LINES;
+use crate::door::NamesOf;
 use crate::journal::Journal;
-use crate::{Receipt, RoundWatch};
+use crate::{Opening, Receipt, RoundWatch};
+use grove_line::Asked;
 use grove_store::Store;
 use grove_tree::{Gate, NoMemory};
 use std::alloc::Global;
@@ -18,16 +20,17 @@ use std::thread::Threads;
 /// Answers the lines by rounds, one after the other, and gives all receipts, in the order of the lines. Where memory is
 /// refused in a later round, the lines from there on stay. Where it is in the first one, nothing has changed. Where a
 /// journal is kept there is only one round: the lines of one that can't be noted are gone.
-pub(crate) fn answer_rounds<R: Threads + Wait + Sync, G: Gate + Sync, W: RoundWatch<R>>(
+pub(crate) fn answer_rounds<B: Opening, R: Threads + Wait + Sync, G: Gate + Sync, W: RoundWatch<R>>(
     rt: &R,
     alloc: Global,
     store: &mut Store,
     journal: &mut Option<Journal>,
-    taken: &mut [Asked],
+    taken: &mut [Asked<NamesOf<B>>],
     gate: &G,
     watch: &W,
 ) -> Result<Vec<Receipt>, NoMemory>
-    requires { 0 < length taken.old }
+    requires some { 0 < length taken.old }
+    requires names { unweighed store.old.rows ≡ unweighed B.store.rows }
     ensures answered { IfOk result
         (λ receipts. AreAnsweredInTurn store.old store.new journal.old journal.new taken.old taken.new receipts.items) }
     ensures numbered { IfOk result (λ receipts. AreNumberedFrom (next_number journal.old) receipts.items) }
@@ -54,16 +57,17 @@ pub(crate) fn answer_rounds<R: Threads + Wait + Sync, G: Gate + Sync, W: RoundWa
 
 /// Answers the first of the lines in one round, each of another caller, and notes it where a journal is kept. Where
 /// memory is refused, both are as they were.
-fn answer_first<R: Threads + Wait + Sync, G: Gate + Sync, W: RoundWatch<R>>(
+fn answer_first<B: Opening, R: Threads + Wait + Sync, G: Gate + Sync, W: RoundWatch<R>>(
     rt: &R,
     alloc: Global,
     store: &mut Store,
     journal: &mut Option<Journal>,
-    lines: &mut [Asked],
+    lines: &mut [Asked<NamesOf<B>>],
     gate: &G,
     watch: &W,
 ) -> Result<Vec<Receipt>, NoMemory>
-    requires { 0 < length lines.old }
+    requires some { 0 < length lines.old }
+    requires names { unweighed store.old.rows ≡ unweighed B.store.rows }
     ensures answered { IfOk result
         (λ receipts. AreAnswered store.old store.new lines.old lines.new receipts.items) }
     ensures few { IfOk result (λ receipts. length receipts.items ≤ 16) }
@@ -83,7 +87,7 @@ fn answer_first<R: Threads + Wait + Sync, G: Gate + Sync, W: RoundWatch<R>>(
 }
 
 /// Over how many of the lines a round is: those before the first whose caller has one among them.
-fn round_length(lines: &[Asked]) -> usize
+fn round_length<B: Opening>(lines: &[Asked<NamesOf<B>>]) -> usize
     requires { 0 < length lines.now }
     ensures { (0 < result) × (result ≤ length lines.now) × (result ≤ 16) }
 {
@@ -97,21 +101,22 @@ fn round_length(lines: &[Asked]) -> usize
 }
 
 /// Is there a line of the caller with this ticket?
-fn has_line(lines: &[Asked], ticket: u64) -> bool {
+fn has_line<B: Opening>(lines: &[Asked<NamesOf<B>>], ticket: u64) -> bool {
     lines.iter().any(|asked| asked.ticket == ticket)
 }
 
 /// Answers the first of the lines in one round of the store, and notes it where a journal is kept. Where memory is
 /// refused, both are as they were.
-fn answer_noted<R: Threads + Wait + Sync, G: Gate + Sync>(
+fn answer_noted<B: Opening, R: Threads + Wait + Sync, G: Gate + Sync>(
     rt: &R,
     alloc: Global,
     store: &mut Store,
     journal: &mut Option<Journal>,
-    taken: &mut [Asked],
+    taken: &mut [Asked<NamesOf<B>>],
     gate: &G,
 ) -> Result<Vec<Receipt>, NoMemory>
-    requires { (0 < length taken.old) × (length taken.old ≤ 16) }
+    requires few { (0 < length taken.old) × (length taken.old ≤ 16) }
+    requires names { unweighed store.old.rows ≡ unweighed B.store.rows }
     ensures answered { IfOk result
         (λ receipts. AreAnswered store.old store.new taken.old taken.new receipts.items) }
     ensures numbered { IfOk result (λ receipts. AreNumberedFrom (next_number journal.old) receipts.items) }

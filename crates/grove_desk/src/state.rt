@@ -1,13 +1,14 @@
 use crate::Opening;
 use crate::desk_receipt::DeskReceipt;
+use crate::door::NamesOf;
 use crate::fault::NoReceipt;
+use grove_line::Line;
 use grove_store::Keeper;
-use grove_wire::Line;
 
 /// Where a line that was put has got to.
 #[derive(Drop)]
 pub(crate) enum State<B: Opening, K: Keeper> {
-    Waiting(Line),
+    Waiting(Line<NamesOf<B>>),
     /// The line left with the store.
     Running,
     /// What the caller of the line is to take.

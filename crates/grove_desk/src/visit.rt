@@ -5,8 +5,8 @@ ghost use Rattle.grove_session.specs.Sessions.{SessionEnds, is_read, is_write};
 ghost use Rattle.grove_tree.specs.Weights.{unweighed};
 ghost use Rattle.grove_desk.specs.Desks.{VisitState, IsShared};
 
+use crate::errand::Errand;
 use crate::fault::answer_fault;
-use crate::pipeline::Pipeline;
 use crate::turn::Leading;
 use crate::{Desk, Opening, Receipt, RoundWatch, Told, Unwatched};
 use grove_session::{AnswerFault, Answers, SessionFault, Sink, Source, session};
@@ -26,9 +26,7 @@ pub struct Visit<'a, B: Opening, K: Keeper = InMemory, W = Unwatched> {
     /// What the last line was answered.
     seen: Option<Receipt>,
     told: Told,
-    /// The lines that come next, with what the first of them were answered, as far as they were put together.
-    lines: Option<Pipeline<B, K>>,
-    leading: Leading,
+    errand: Errand<B, K>,
 }
 
 impl<'a, B: Opening, K: Keeper, W> Model for Visit<'a, B, K, W> {
@@ -63,8 +61,7 @@ impl<'a, B: Opening, K: Keeper, W> Visit<'a, B, K, W> {
             watch,
             seen: None,
             told: Told::Nothing,
-            lines: None,
-            leading: Leading::Once,
+            errand: Errand::new(Leading::Once),
         }
     }
 
@@ -74,7 +71,7 @@ impl<'a, B: Opening, K: Keeper, W> Visit<'a, B, K, W> {
         ensures { result ≡ self.entry }
     {
         Visit {
-            leading: Leading::Through,
+            errand: Errand::new(Leading::Through),
             ..self
         }
     }
@@ -109,8 +106,7 @@ impl<
         let answered = self.desk.answer_next(
             rt,
             alloc,
-            &mut self.lines,
-            self.leading,
+            &mut self.errand,
             self.seen.as_ref(),
             line,
             &OpenGate,
@@ -141,7 +137,7 @@ impl<
                 Ok(reply)
             }
             Err(fault) => {
-                self.lines = None;
+                self.errand.lines = None;
                 Err(answer_fault(fault))
             }
         }
@@ -152,24 +148,11 @@ impl<
     }
 
     fn look_ahead(&mut self, rt: &R, bytes: &[u8]) {
-        if has_lines(&self.lines) {
-            return;
-        }
-        if let Ok(lines) = Pipeline::of_bytes(rt.alloc(), bytes, self.desk.who_reads()) {
-            self.lines = Some(lines);
-        }
+        self.desk.look_ahead(rt.alloc(), &mut self.errand, bytes);
     }
 
     fn leave(&mut self, _rt: &R) {
-        self.lines = None;
-    }
-}
-
-/// Are lines left that were to be put together?
-fn has_lines<B: Opening, K: Keeper>(lines: &Option<Pipeline<B, K>>) -> bool {
-    match lines {
-        Some(lines) => !lines.is_empty(),
-        None => false,
+        self.errand.lines = None;
     }
 }
 

@@ -2,3 +2,4 @@ pub mod WholeNumbers
 pub mod AccessTokens
 pub mod Items
 pub mod Members
+pub mod Lines

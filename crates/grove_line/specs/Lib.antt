@@ -1,2 +1,3 @@
 pub mod AccessTokens
+pub mod Lines
 pub mod Straight

@@ -3,15 +3,18 @@ ghost use Rattle.grove_wire.specs.Outcomes.{Gives};
 ghost use Rattle.grove_wire.specs.RequestLaws.{AskedFits};
 ghost use Rattle.grove_wire.specs.Requests.{asked_of, request_of};
 
-use crate::asked::asked_in;
+use crate::reading::line_request;
 use grove_tree::Tree;
-use grove_wire::{Line, Request, WireFault};
+use grove_wire::{Request, WireFault, read_request};
 use json::Scratch;
 use std::alloc::Global;
 use std::fmt;
 
+/// After a line with more bytes no memory is kept.
+const MOST_KEPT: usize = 64 * 1024;
+
 /// What reads lines, with memory of its own that it keeps from one to the next: none before the first line, and then
-/// some 16 KiB and the length of the longest.
+/// some 16 KiB and the length of the longest, but no more than 64 KiB.
 #[derive(Drop)]
 pub struct LineReader {
     scratch: Option<Box<Scratch>>,
@@ -22,19 +25,23 @@ impl LineReader {
         LineReader { scratch: None }
     }
 
-    /// What `read_request` reads of the line. A plan or a batch without fault is read straight from the line's text,
-    /// unless the line is read already, and all else by way of the line's value.
-    pub fn read(&mut self, alloc: Global, tree: &Tree, line: &Line) -> Result<Request, WireFault>
+    /// What `read_request` reads of the line. A plan or a batch without fault is read straight from the line's text, and
+    /// all else by way of the line's value.
+    pub fn read(&mut self, alloc: Global, tree: &Tree, line: &[u8]) -> Result<Request, WireFault>
         ensures read { Gives asked_of result (request_of tree.now line.now) }
         ensures fits { IfOk result (λ request. AskedFits tree.now (asked_of request)) }
     {
         if self.scratch.is_none() {
             self.scratch = Some(Box::new(alloc, Scratch::new(alloc))?);
         }
-        match &mut self.scratch {
-            Some(scratch) => asked_in(alloc, scratch, tree, line),
-            None => line.request(alloc, tree),
+        let request = match &mut self.scratch {
+            Some(scratch) => line_request(alloc, scratch, tree, line),
+            None => read_request(alloc, tree, line),
+        };
+        if line.len() > MOST_KEPT {
+            self.scratch = None;
         }
+        request
     }
 }
 

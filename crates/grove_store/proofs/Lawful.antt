@@ -1,22 +1,19 @@
 -- What makes a round lawful: of one line alone, or of batches together.
-use Rattle.std.proofs.Common.{◌≡◌, ◌≢◌, ◌⊎◌, ℕ, suc, ◌+◌, ◌-◌, ◌^◌, ◌<◌, ◌≤◌, max, List, [], ◌∷◌, length, get_or}
-use Rattle.std.proofs.Common.{take, drop, map, Option, Some, None, refl, sym, ◌∙◌, ap, ap₂, subst, inl, arith}
+use Rattle.std.proofs.Common.{◌≡◌, ◌⊎◌, ℕ, suc, ◌+◌, ◌-◌, ◌^◌, ◌<◌, ◌≤◌, max, List, [], ◌∷◌, length}
+use Rattle.std.proofs.Common.{take, Option, Some, None, refl, sym, ◌∙◌, ap, ap₂, subst, inl, arith}
 use Rattle.std.specs.Prelude.{option_map, option_and_then, Result, Ok, Err}
-use Rattle.std.specs.Borrow.{Bor}
 use Rattle.std.proofs.lemmas.Option.{none-some, same_Some}
 use Rattle.serde_json.specs.Data.{Data}
 use Rattle.serde_json.specs.Written.{compact_text}
 use Rattle.grove_tree.specs.Trees.{Rows}
 use Rattle.grove_access.specs.declared.access.Access.{Access}
 use Rattle.grove_wire.specs.declared.fault.WireFault.{WireFault}
-use Rattle.grove_wire.specs.declared.fault.WireFault.TheVariants.{BadJson, Shape, NoPath, BadLength, Limit, Tree, Memory}
-use Rattle.grove_wire.specs.Outcomes.{Fails}
 use Rattle.grove_wire.specs.Requests.{Asked, Batch, request_of}
 use Rattle.grove_store.specs.StoreStates.{StoreState, IsStore}
 use Rattle.grove_store.specs.Alone.{RepliesAlone}
 use Rattle.grove_store.specs.Rounds.{lists_asked, lists_in, batches_in, joined, first_fits, fitting, round_length, RunsRound, FailsRound, AnswersLines, IsLawfulRound}
-use Rattle.grove_store.specs.Parts.{IsRoundOf, AnswersRound, RunsLists, RunsFirst}
-use Rattle.grove_store.proofs.Together.{counts_one, first_line}
+use Rattle.grove_store.specs.Parts.{IsRoundOf, AnswersRound, AnswersFirst, RunsLists, RunsFirst}
+use Rattle.grove_store.proofs.Together.{counts_one}
 use Rattle.grove_store.proofs.Leaving.{answered_long}
 
 -- a first line that is no batch is a round by itself
@@ -60,104 +57,80 @@ round_lawful before after line others first lists counts replies store here few 
       subst (λ (n : ℕ). IsLawfulRound before (take n (line ∷ others)) replies after) (sym all) lawful,
     )
 
--- what the first of some lines asks for, as it is taken out of them
-pub read_first : (rows : Rows) (lines : List (Bor (List ℕ))) (line : Bor (List ℕ)) (asked : Result Asked WireFault)
-    → line ≡ get_or lines 0 line → request_of rows line.now ≡ asked → request_of rows (get_or lines 0 line).now ≡ asked
-read_first rows lines line asked at read = subst (λ (l : Bor (List ℕ)). request_of rows l.now ≡ asked) at read
-
--- the same of lines as they are handed in
-pub first_alone : (before after : StoreState) (rows : Rows) (lines : List (Bor (List ℕ))) (d : Bor (List ℕ)) (asked : Result Asked WireFault) (reply : Data) (text : List ℕ) (replies : List (List ℕ)) (n : ℕ) → IsStore before
-    → rows ≡ before.rows → 0 < length lines → request_of rows (get_or lines 0 d).now ≡ asked → lists_asked asked ≡ None → RepliesAlone before asked reply after → text ≡ compact_text reply → replies ≡ text ∷ []
-    → n ≡ length replies → (n ≡ round_length before.rows (map (λ line. line.now) lines)) × IsLawfulRound before (take n (map (λ line. line.now) lines)) replies after
-first_alone before after rows lines d asked reply text replies n store same some read none answers told one long =
-    let here : request_of before.rows (get_or lines 0 d).now ≡ asked = ap (λ (rs : Rows). request_of rs (get_or lines 0 d).now) (sym same) ∙ read in
-    let lawful = alone_lawful before after (get_or lines 0 d).now (map (λ (line : Bor (List ℕ)). line.now) (drop 1 lines)) asked reply text replies store here none answers told one in (
-      long ∙ lawful.0 ∙ ap (λ (ls : List (List ℕ)). round_length before.rows ls) (sym (first_line lines d some)),
-      subst (λ (ls : List (List ℕ)). IsLawfulRound before (take n ls) replies after) (sym (first_line lines d some))
-          (subst (λ (m : ℕ). IsLawfulRound before (take m ((get_or lines 0 d).now ∷ map (λ line. line.now) (drop 1 lines))) replies after) (sym long) lawful.1),
-    )
-
--- and where the store is as it was
-pub first_kept : (before now : StoreState) (lines : List (Bor (List ℕ))) (d : Bor (List ℕ)) (asked : Result Asked WireFault) (reply : Data) (text : List ℕ) (replies : List (List ℕ)) (n : ℕ) → before ≡ now → IsStore before
-    → 0 < length lines → request_of before.rows (get_or lines 0 d).now ≡ asked → lists_asked asked ≡ None → RepliesAlone before asked reply before → text ≡ compact_text reply → replies ≡ text ∷ []
-    → n ≡ length replies → (n ≡ round_length now.rows (map (λ line. line.now) lines)) × IsLawfulRound now (take n (map (λ line. line.now) lines)) replies now
-first_kept before now lines d asked reply text replies n same store some read none answers told one long =
-    subst (λ (s : StoreState). (n ≡ round_length s.rows (map (λ line. line.now) lines)) × IsLawfulRound s (take n (map (λ line. line.now) lines)) replies s) same
-    (first_alone before before before.rows lines d asked reply text replies n store refl some read none answers told one long)
-
--- batches, as they are handed in
-pub first_round : (before after : StoreState) (rows : Rows) (lines others : List (Bor (List ℕ))) (d : Bor (List ℕ)) (first lists : List (List Access)) (counts : List ℕ) (replies : List (List ℕ)) (n : ℕ) → IsStore before
-    → rows ≡ before.rows → 0 < length lines → others ≡ drop 1 lines → request_of rows (get_or lines 0 d).now ≡ Ok (Batch first) → length first ≤ 256
-    → IsRoundOf rows first (map (λ line. line.now) others) counts lists → AnswersRound before lists counts replies after → n ≡ length replies
-    → (n ≡ round_length before.rows (map (λ line. line.now) lines)) × IsLawfulRound before (take n (map (λ line. line.now) lines)) replies after
-first_round before after rows lines others d first lists counts replies n store same some rest read few round answers long =
-    let here : lists_in before.rows (get_or lines 0 d).now ≡ Some first = ap (λ (rs : Rows). lists_in rs (get_or lines 0 d).now) (sym same) ∙ ap lists_asked read in
-    let own : IsRoundOf before.rows first (map (λ line. line.now) (drop 1 lines)) counts lists =
-    subst (λ (rs : Rows). IsRoundOf rs first (map (λ line. line.now) (drop 1 lines)) counts lists) same
-    (subst (λ (ls : List (Bor (List ℕ))). IsRoundOf rows first (map (λ line. line.now) ls) counts lists) rest round) in
-    let lawful = round_lawful before after (get_or lines 0 d).now (map (λ (line : Bor (List ℕ)). line.now) (drop 1 lines)) first lists counts replies store here few own answers in (
-      long ∙ lawful.0 ∙ ap (λ (ls : List (List ℕ)). round_length before.rows ls) (sym (first_line lines d some)),
-      subst (λ (ls : List (List ℕ)). IsLawfulRound before (take n ls) replies after) (sym (first_line lines d some))
-          (subst (λ (m : ℕ). IsLawfulRound before (take m ((get_or lines 0 d).now ∷ map (λ line. line.now) (drop 1 lines))) replies after) (sym long) lawful.1),
-    )
-
 -- what is asked first, over the rows of a store
 asked_first : (before : StoreState) (rows : Rows) (line : List ℕ) (asked : Result Asked WireFault)
     → rows ≡ before.rows → request_of rows line ≡ asked → lists_in before.rows line ≡ lists_asked asked
 asked_first before rows line asked same read =
     ap (λ (rs : Rows). lists_in rs line) (sym same) ∙ ap lists_asked read
 
+-- the same of a round's lines, over the rows of the store
+pub first_alone : (before after : StoreState) (rows : Rows) (lines : List (List ℕ)) (line : List ℕ)
+    (others : List (List ℕ)) (asked : Result Asked WireFault) (reply : Data) (text : List ℕ) (replies : List (List ℕ))
+    → IsStore before → rows ≡ before.rows → lines ≡ line ∷ others → request_of rows line ≡ asked
+    → lists_asked asked ≡ None → RepliesAlone before asked reply after → text ≡ compact_text reply → replies ≡ text ∷ []
+    → AnswersFirst before lines replies after
+first_alone before after rows lines line others asked reply text replies store same is read none answers told one =
+    let here : request_of before.rows line ≡ asked = ap (λ (rs : Rows). request_of rs line) (sym same) ∙ read in
+    subst (λ (ls : List (List ℕ)). AnswersFirst before ls replies after) (sym is)
+    (alone_lawful before after line others asked reply text replies store here none answers told one)
+
+-- and where the store is as it was
+pub first_kept : (before now : StoreState) (lines : List (List ℕ)) (line : List ℕ) (others : List (List ℕ))
+    (asked : Result Asked WireFault) (reply : Data) (text : List ℕ) (replies : List (List ℕ)) → before ≡ now
+    → IsStore before → lines ≡ line ∷ others → request_of before.rows line ≡ asked → lists_asked asked ≡ None
+    → RepliesAlone before asked reply before → text ≡ compact_text reply → replies ≡ text ∷ []
+    → AnswersFirst now lines replies now
+first_kept before now lines line others asked reply text replies same store is read none answers told one =
+    subst (λ (s : StoreState). AnswersFirst s lines replies s) same
+    (first_alone before before before.rows lines line others asked reply text replies store refl is read none answers
+    told one)
+
+-- batches that are answered together, over the rows of the store
+pub first_round : (before after : StoreState) (rows : Rows) (lines : List (List ℕ)) (line : List ℕ)
+    (others : List (List ℕ)) (first lists : List (List Access)) (counts : List ℕ) (replies : List (List ℕ))
+    → IsStore before → rows ≡ before.rows → lines ≡ line ∷ others → request_of rows line ≡ Ok (Batch first)
+    → length first ≤ 256 → IsRoundOf rows first others counts lists → AnswersRound before lists counts replies after
+    → AnswersFirst before lines replies after
+first_round before after rows lines line others first lists counts replies store same is read few round answers =
+    let here : lists_in before.rows line ≡ Some first = asked_first before rows line (Ok (Batch first)) same read in
+    let own : IsRoundOf before.rows first others counts lists =
+    subst (λ (rs : Rows). IsRoundOf rs first others counts lists) same round in
+    subst (λ (ls : List (List ℕ)). AnswersFirst before ls replies after) (sym is)
+    (round_lawful before after line others first lists counts replies store here few own answers)
+
 -- a first line that is no batch, with its one reply, is no round of batches
-pub first_other : (before after : StoreState) (rows : Rows) (lines : List (Bor (List ℕ))) (d : Bor (List ℕ))
-    (asked : Result Asked WireFault) (replies : List (List ℕ))
-    → rows ≡ before.rows → 0 < length lines → request_of rows (get_or lines 0 d).now ≡ asked
+pub first_other : (before after : StoreState) (rows : Rows) (lines : List (List ℕ)) (line : List ℕ)
+    (others : List (List ℕ)) (asked : Result Asked WireFault) (replies : List (List ℕ))
+    → rows ≡ before.rows → lines ≡ line ∷ others → request_of rows line ≡ asked
     → lists_asked asked ≡ None → length replies ≡ 1
-    → RunsFirst before (map (λ line. line.now) lines) replies after
-first_other before after rows lines d asked replies same some read none one batches all room =
-    let others : List (List ℕ) = map (λ (lent : Bor (List ℕ)). lent.now) (drop 1 lines) in
-    let line : List ℕ = (get_or lines 0 d).now in
+    → RunsFirst before lines replies after
+first_other before after rows lines line others asked replies same is read none one batches all room =
     let no_lists : lists_in before.rows line ≡ None = asked_first before rows line asked same read ∙ none in
-    let texts : List (List ℕ) = map (λ (lent : Bor (List ℕ)). lent.now) lines in
-    let no_batches : batches_in before.rows (take (length replies) texts) ≡ None =
-    ap (λ (ls : List (List ℕ)). batches_in before.rows (take (length replies) ls)) (first_line lines d some)
+    let no_batches : batches_in before.rows (take (length replies) lines) ≡ None =
+    ap (λ (ls : List (List ℕ)). batches_in before.rows (take (length replies) ls)) is
     ∙ ap (λ (n : ℕ). batches_in before.rows (take n (line ∷ others))) one
     ∙ ap (λ (o : Option (List (List Access))). option_and_then (λ lists. option_map (λ bs. lists ∷ bs) (Some [])) o)
     no_lists in absurd (none-some batches (sym no_batches ∙ all))
 
 -- batches that were run together are the batches of the round
-pub first_run : (before after : StoreState) (rows : Rows) (lines others : List (Bor (List ℕ))) (d : Bor (List ℕ))
-    (first lists : List (List Access)) (counts : List ℕ) (replies : List (List ℕ))
-    → rows ≡ before.rows → 0 < length lines → others ≡ drop 1 lines
-    → request_of rows (get_or lines 0 d).now ≡ Ok (Batch first)
-    → IsRoundOf rows first (map (λ line. line.now) others) counts lists
+pub first_run : (before after : StoreState) (rows : Rows) (lines : List (List ℕ)) (line : List ℕ)
+    (others : List (List ℕ)) (first lists : List (List Access)) (counts : List ℕ) (replies : List (List ℕ))
+    → rows ≡ before.rows → lines ≡ line ∷ others → request_of rows line ≡ Ok (Batch first)
+    → IsRoundOf rows first others counts lists
     → (before.rounds < 2 ^ 64 - 1 → RunsLists before lists counts replies after)
-    → RunsFirst before (map (λ line. line.now) lines) replies after
-first_run before after rows lines others d first lists counts replies same some rest read round runs batches all room =
-    let more : List (List ℕ) = map (λ (lent : Bor (List ℕ)). lent.now) (drop 1 lines) in
-    let line : List ℕ = (get_or lines 0 d).now in
+    → RunsFirst before lines replies after
+first_run before after rows lines line others first lists counts replies same is read round runs batches all room =
     let here : lists_in before.rows line ≡ Some first = asked_first before rows line (Ok (Batch first)) same read in
-    let own : IsRoundOf before.rows first more counts lists =
-    subst (λ (rs : Rows). IsRoundOf rs first more counts lists) same
-    (subst (λ (ls : List (Bor (List ℕ))). IsRoundOf rows first (map (λ line. line.now) ls) counts lists) rest round) in
+    let own : IsRoundOf before.rows first others counts lists =
+    subst (λ (rs : Rows). IsRoundOf rs first others counts lists) same round in
     let ran : RunsRound before (first ∷ own.has.batches) replies after =
     runs room (first ∷ own.has.batches) (sym own.has.in_order) (sym own.has.counted) in
-    let long : length replies ≡ suc (fitting before.rows (256 - length first) more) =
+    let long : length replies ≡ suc (fitting before.rows (256 - length first) others) =
     answered_long before (first ∷ own.has.batches) replies after (inl ran) ∙ ap suc own.has.number in
-    let known : batches_in before.rows (take (length replies) (map (λ (lent : Bor (List ℕ)). lent.now) lines))
-    ≡ Some (first ∷ own.has.batches) =
-    ap (λ (ls : List (List ℕ)). batches_in before.rows (take (length replies) ls)) (first_line lines d some)
-    ∙ ap (λ (n : ℕ). batches_in before.rows (take n (line ∷ more))) long
+    let known : batches_in before.rows (take (length replies) lines) ≡ Some (first ∷ own.has.batches) =
+    ap (λ (ls : List (List ℕ)). batches_in before.rows (take (length replies) ls)) is
+    ∙ ap (λ (n : ℕ). batches_in before.rows (take n (line ∷ others))) long
     ∙ ap₂ (λ (o : Option (List (List Access))) (bs : Option (List (List (List Access)))).
     option_and_then (λ one. option_map (λ rs. one ∷ rs) bs) o) here own.has.are_read in
     subst (λ (bs : List (List (List Access))). RunsRound before bs replies after)
     (same_Some (first ∷ own.has.batches) batches (sym known ∙ all)) ran
-
--- a fault that isn't out of memory is the fault of reading
-pub fails_so : (fault : WireFault) (read : Result Asked WireFault) → fault ≢ Memory → Fails fault read → read ≡ Err fault
-fails_so BadJson read found fails = fails
-fails_so (Shape place) read found fails = fails
-fails_so (NoPath place) read found fails = fails
-fails_so (BadLength place) read found fails = fails
-fails_so (Limit place) read found fails = fails
-fails_so (Tree fault) read found fails = fails
-fails_so Memory read found fails = absurd (found refl)

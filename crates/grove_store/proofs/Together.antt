@@ -1,6 +1,5 @@
 -- Which lines are answered together, read one after the other.
 use Rattle.std.proofs.Common.{◌≡◌, ℕ, ◌+◌, ◌-◌, ◌<◌, ◌≤◌, leb, List, [], ◌∷◌, ◌++◌, length, get_or, take, drop, map, sum, Option, Some, None, refl, sym, ◌∙◌, ap, ap₂, subst, arith, append_assoc, length-append}
-use Rattle.std.specs.Borrow.{Bor}
 use Rattle.std.specs.Prelude.{option_map, option_and_then, All}
 use Rattle.std.proofs.lemmas.Bool.{cond-true, le-leb}
 use Rattle.std.proofs.lemmas.List.{append-nil, at_drop_more, at_drop_all, take_more, map_push, length-map, get_or-map}
@@ -108,38 +107,45 @@ joined_long (lists ∷ batches) =
 pub counts_all : (rows : Rows) (first : List (List Access)) (lines : List (List ℕ)) (counts : List ℕ) (lists : List (List Access)) → IsRoundOf rows first lines counts lists → sum counts ≡ length lists
 counts_all rows first lines counts lists round = ap sum round.has.counted ∙ joined_long (first ∷ round.has.batches) ∙ sym (ap length round.has.in_order)
 
--- a line that is handed in by reference
-line_read : (lines : List (Bor (List ℕ))) (i : ℕ) (d : Bor (List ℕ)) → i < length lines → (get_or lines i d).now ≡ get_or (map (λ line. line.now) lines) i []
-line_read lines i d lt = sym (get_or-map (λ line. line.now) lines i d [] lt)
-
--- one more of the lines that are handed in is read
-pub read_one_more : (rows : Rows) (first : List (List Access)) (lines : List (Bor (List ℕ))) (i room all : ℕ) (counts after : List ℕ) (lists joins more : List (List Access)) (d : Bor (List ℕ))
-    → i < length lines → room ≡ 256 - length lists → FitsRoom (lists_in rows (get_or lines i d).now) room more → All (λ list. AreNodes rows (nodes_of list)) more
-    → after ≡ counts ++ length more ∷ [] → joins ≡ lists ++ more → HasBatches rows first (map (λ line. line.now) lines) i counts lists
-    → i + fitting rows (256 - length lists) (drop i (map (λ line. line.now) lines)) ≡ all
-    → HasBatches rows first (map (λ line. line.now) lines) (i + 1) after joins × ((i + 1) + fitting rows (256 - length joins) (drop (i + 1) (map (λ line. line.now) lines)) ≡ all)
-read_one_more rows first lines i room all counts after lists joins more d lt is fits fit counted in_order has so_far =
-    let within : i < length (map (λ (line : Bor (List ℕ)). line.now) lines) = omega (arith, length-map lines (λ (line : Bor (List ℕ)). line.now)) in
-    let fits_room : FitsRoom (lists_in rows (get_or lines i d).now) (256 - length lists) more = subst (λ (n : ℕ). FitsRoom (lists_in rows (get_or lines i d).now) n more) is fits in (
-      subst (λ (ls : List (List Access)). HasBatches rows first (map (λ line. line.now) lines) (i + 1) after ls) (sym in_order)
-          (subst (λ (ns : List ℕ). HasBatches rows first (map (λ line. line.now) lines) (i + 1) ns (lists ++ more)) (sym counted)
-          (has_one_more rows first (map (λ line. line.now) lines) i counts lists (get_or lines i d).now more within (line_read lines i d lt) has fits_room fit)),
-      subst (λ (ls : List (List Access)). (i + 1) + fitting rows (256 - length ls) (drop (i + 1) (map (λ line. line.now) lines)) ≡ all) (sym in_order)
-          (fitting_more rows (map (λ line. line.now) lines) i all lists (get_or lines i d).now more within (line_read lines i d lt) fits_room so_far),
+-- one more of the lines is read
+pub read_one_more : {L : Type 0} (text : L → List ℕ) (rows : Rows) (first : List (List Access)) (lines : List L)
+    (i room all : ℕ) (counts after : List ℕ) (lists joins more : List (List Access)) (d : L) → i < length lines
+    → room ≡ 256 - length lists → FitsRoom (lists_in rows (text (get_or lines i d))) room more
+    → All (λ list. AreNodes rows (nodes_of list)) more → after ≡ counts ++ length more ∷ [] → joins ≡ lists ++ more
+    → HasBatches rows first (map text lines) i counts lists
+    → i + fitting rows (256 - length lists) (drop i (map text lines)) ≡ all
+    → HasBatches rows first (map text lines) (i + 1) after joins
+    × ((i + 1) + fitting rows (256 - length joins) (drop (i + 1) (map text lines)) ≡ all)
+read_one_more {L} text rows first lines i room all counts after lists joins more d lt is fits fit counted in_order has so_far =
+    let line : List ℕ = text (get_or lines i d) in
+    let texts : List (List ℕ) = map text lines in
+    let here : line ≡ get_or texts i [] = sym (get_or-map text lines i d [] lt) in
+    let within : i < length texts = omega (arith, length-map lines text) in
+    let fits_room : FitsRoom (lists_in rows line) (256 - length lists) more =
+    subst (λ (n : ℕ). FitsRoom (lists_in rows line) n more) is fits in (
+      subst (λ (ls : List (List Access)). HasBatches rows first texts (i + 1) after ls) (sym in_order)
+          (subst (λ (ns : List ℕ). HasBatches rows first texts (i + 1) ns (lists ++ more)) (sym counted)
+          (has_one_more rows first texts i counts lists line more within here has fits_room fit)),
+      subst (λ (ls : List (List Access)). (i + 1) + fitting rows (256 - length ls) (drop (i + 1) texts) ≡ all)
+          (sym in_order) (fitting_more rows texts i all lists line more within here fits_room so_far),
     )
 
--- one that doesn't fit ends the round
-pub read_stops : (rows : Rows) (lines : List (Bor (List ℕ))) (i left room : ℕ) (d : Bor (List ℕ)) → i < length lines → left ≡ room → NoneFits (lists_in rows (get_or lines i d).now) left
-    → fitting rows room (drop i (map (λ line. line.now) lines)) ≡ 0
-read_stops rows lines i left room d lt is none =
-    fitting_stops rows (map (λ line. line.now) lines) i room (get_or lines i d).now (omega (arith, length-map lines (λ (line : Bor (List ℕ)). line.now))) (line_read lines i d lt)
-    (subst (λ (n : ℕ). NoneFits (lists_in rows (get_or lines i d).now) n) is none)
+-- a line that doesn't fit ends the round
+pub read_stops : {L : Type 0} (text : L → List ℕ) (rows : Rows) (lines : List L) (i left room : ℕ) (d : L)
+    → i < length lines → left ≡ room → NoneFits (lists_in rows (text (get_or lines i d))) left
+    → fitting rows room (drop i (map text lines)) ≡ 0
+read_stops text rows lines i left room d lt is none =
+    fitting_stops rows (map text lines) i room (text (get_or lines i d)) (omega (arith, length-map lines text))
+    (sym (get_or-map text lines i d [] lt))
+    (subst (λ (n : ℕ). NoneFits (lists_in rows (text (get_or lines i d))) n) is none)
 
 -- and so does the last of them
-pub read_ends : (rows : Rows) (lines : List (Bor (List ℕ))) (i room : ℕ) → length lines ≤ i → fitting rows room (drop i (map (λ line. line.now) lines)) ≡ 0
-read_ends rows lines i room le = fitting_ends rows (map (λ line. line.now) lines) i room (omega (arith, length-map lines (λ (line : Bor (List ℕ)). line.now)))
+pub read_ends : {L : Type 0} (text : L → List ℕ) (rows : Rows) (lines : List L) (i room : ℕ) → length lines ≤ i
+    → fitting rows room (drop i (map text lines)) ≡ 0
+read_ends text rows lines i room le = fitting_ends rows (map text lines) i room (omega (arith, length-map lines text))
 
--- a first line and the others
-pub first_line : (lines : List (Bor (List ℕ))) (d : Bor (List ℕ)) → 0 < length lines → map (λ line. line.now) lines ≡ (get_or lines 0 d).now ∷ map (λ line. line.now) (drop 1 lines)
-first_line [] d some = absurd (omega arith)
-first_line (line ∷ lines) d some = refl
+-- lines that are some begin with one, and the others follow it
+pub some_line : {L : Type 0} (text : L → List ℕ) (lines : List L) → 0 < length lines
+    → (line : List ℕ) × (others : List (List ℕ)) × (map text lines ≡ line ∷ others) × (map text (drop 1 lines) ≡ others)
+some_line text [] some = absurd (omega arith)
+some_line text (line ∷ others) some = (text line, map text others, refl, refl)

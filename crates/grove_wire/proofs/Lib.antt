@@ -10,6 +10,7 @@ pub mod Weights
 pub mod Only
 pub mod Fitting
 pub mod Requests
+pub mod SameNames
 pub mod Slashes
 pub mod Stored
 pub mod DocumentTexts

@@ -7,23 +7,21 @@ use Rattle.serde_json.specs.Data.{Num, Data, null, number, unsigned, string, arr
 use Rattle.serde_json.specs.Data.{Members, no_members, member, put}
 use Rattle.serde_json.specs.Find.{as_number, as_str, as_u64}
 use Rattle.serde_json.specs.Read.{number_of, of_json, of_items, of_members}
-use Rattle.serde_json.specs.View.{view, items_of}
+use Rattle.serde_json.specs.View.{items_of}
 use Rattle.grove_tree.specs.Trees.{Rows}
 use Rattle.grove_plan.specs.declared.step.Step.{Step}
 use Rattle.grove_plan.specs.declared.step.Step.TheVariants as step
 use Rattle.grove_proof.specs.declared.flow.FlowRow.{FlowRow}
 use Rattle.grove_wire.specs.declared.fault.WireFault.{WireFault}
-use Rattle.grove_wire.specs.declared.fault.WireFault.TheVariants.{BadJson, Shape}
+use Rattle.grove_wire.specs.declared.fault.WireFault.TheVariants.{Shape}
 use Rattle.grove_wire.specs.declared.place.Part.TheVariants as part
 use Rattle.grove_wire.specs.declared.place.Place.{Place}
-use Rattle.grove_wire.specs.Outcomes.{◌>>=◌, or_fault, few_on, Fails}
+use Rattle.grove_wire.specs.Outcomes.{◌>>=◌, or_fault, few_on}
 use Rattle.grove_wire.specs.Places.{whole_of}
 use Rattle.grove_wire.specs.Reading as reading
 use Rattle.grove_wire.specs.Requests as requests
 use Rattle.grove_wire.specs.RowParts.{flow_with}
 use Rattle.grove_wire.specs.declared.versions.Version.TheVariants.{Second}
-use Rattle.grove_wire.specs.declared.line.Kept.{Kept}
-use Rattle.grove_wire.specs.declared.line.Kept.TheVariants as kept
 use Rattle.grove_wire.specs.declared.sketch.Form.{Form}
 use Rattle.grove_wire.specs.declared.sketch.Form.TheVariants as form
 use Rattle.grove_wire.specs.Forms.{as_list, as_short, is_word, access_form, flow_form}
@@ -223,12 +221,6 @@ pub record Draft (value : Option Data) (e : Data) : Type 0 where
   pub is : value ≡ Some whole
   pub reads : of_json text ≡ Some whole
   pub kept : e ≡ drawn form.Line text
-
--- what was read of a line
-abbrev pub IsKeptOf : List ℕ → Kept → Type 0
-IsKeptOf line kept.Nothing = Unit {0}
-IsKeptOf line (kept.Value value) = Draft (reading.value_of line) (view value)
-IsKeptOf line (kept.Fault fault) = Fails fault (or_fault BadJson (reading.value_of line))
 
 -- ---- what is kept, read
 

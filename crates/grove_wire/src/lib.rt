@@ -9,7 +9,6 @@ pub use fault_texts::{plan_fault_text, proof_fault_text, run_fault_text, wire_fa
 pub use faults::{Fault, StandingFault};
 pub use flows::{read_flow, read_plan_and_flow};
 pub use jobs::{MOST_JOBS, read_jobs};
-pub use line::Line;
 pub use lists::{MOST_LISTS, read_list, read_lists};
 pub use nodes::read_tree;
 pub use path_cache::PathCache;
@@ -41,7 +40,6 @@ mod flows;
 mod forms;
 mod jobs;
 mod kept;
-mod line;
 mod lists;
 mod nodes;
 mod numbers;

@@ -1,7 +1,7 @@
 ghost use Rattle.std.specs.Prelude.{◌≡◌, ℕ, List, IfOk, option_map};
 ghost use Rattle.serde_json.specs.View.{view};
 ghost use Rattle.grove_wire.specs.Outcomes.{Gives};
-ghost use Rattle.grove_wire.specs.RequestLaws.{AskedFits, RequestsFit, ReadingNeedsNoRoom};
+ghost use Rattle.grove_wire.specs.RequestLaws.{AskedFits, RequestsFit, ReadingNeedsNoRoom, ReadingGoesByNames};
 ghost use Rattle.grove_wire.specs.Requests.{asked_of, only_member, plan_of, batch_of, request_of};
 ghost use Rattle.grove_wire.specs.Reading.{value_of};
 ghost use Rattle.grove_wire.specs.Sketches.{Draft, kept_check_of, kept_named_of};
@@ -58,10 +58,12 @@ pub(crate) fn request_in(alloc: Global, tree: &Tree, kept: &Value) -> Result<Req
     }
 }
 
-/// What holds of every line: what it asks for fits the tree and the limits, and what it says never is out of memory.
+/// What holds of every line: what it asks for fits the tree and the limits, what it says never is out of memory, and of
+/// the tree it depends on the names alone.
 pub fn request_laws()
     ensures fits { RequestsFit }
     ensures room { ReadingNeedsNoRoom }
+    ensures names { ReadingGoesByNames }
 {}
 
 /// The one member of an object that has just one, with its name.

@@ -4,13 +4,14 @@ ghost use Rattle.grove_desk.specs.Histories.{IsDeskReceipt};
 ghost use Rattle.grove_desk.specs.Boards.{Takes};
 
 use super::ALONE;
-use crate::asked::Asked;
 use crate::board::Board;
+use crate::door::NamesOf;
 use crate::fault::NoReceipt;
 use crate::ledger::Ledger;
 use crate::pipeline::Pipeline;
 use crate::turn::{Leading, Turn};
 use crate::{Desk, Opening, Receipt, RoundWatch};
+use grove_line::Asked;
 use grove_store::Keeper;
 use grove_tree::{Gate, NoMemory};
 use std::alloc::Global;
@@ -25,7 +26,7 @@ impl<B: Opening, K: Keeper + Drop> Desk<B, K> {
         rt: &R,
         lines: Pipeline<B, K>,
         leading: Leading,
-        taken: &mut Vec<Asked>,
+        taken: &mut Vec<Asked<NamesOf<B>>>,
     ) -> Result<(u64, Turn<Pipeline<B, K>, Ledger<B, K>>), NoMemory>
         requires { taken.old.items ≡ [] }
         ensures lines { IfOk result (λ put. Takes put.1 taken.new.items) }
@@ -59,7 +60,7 @@ impl<B: Opening, K: Keeper + Drop> Desk<B, K> {
         ticket: u64,
         turn: Turn<Pipeline<B, K>, Ledger<B, K>>,
         leading: Leading,
-        taken: &mut Vec<Asked>,
+        taken: &mut Vec<Asked<NamesOf<B>>>,
         gate: &G,
         watch: &W,
     ) -> (Result<Receipt, NoReceipt>, Pipeline<B, K>)
@@ -100,7 +101,7 @@ impl<B: Opening, K: Keeper + Drop> Desk<B, K> {
         board: MutexGuard<'_, Board<B, K>>,
         ticket: u64,
         leading: Leading,
-        taken: &mut Vec<Asked>,
+        taken: &mut Vec<Asked<NamesOf<B>>>,
     ) -> Turn<Pipeline<B, K>, Ledger<B, K>>
         requires { taken.old.items ≡ [] }
         ensures { Takes result taken.new.items }
@@ -125,7 +126,7 @@ impl<B: Opening, K: Keeper + Drop> Desk<B, K> {
         ledger: Ledger<B, K>,
         ticket: u64,
         leading: Leading,
-        taken: &mut Vec<Asked>,
+        taken: &mut Vec<Asked<NamesOf<B>>>,
         answered: Result<Vec<Receipt>, NoReceipt>,
     ) -> Turn<Pipeline<B, K>, Ledger<B, K>>
         requires { IfOk answered (λ receipts. All (IsDeskReceipt K.stands_for B.store B.kept) receipts.items) }

@@ -5,8 +5,8 @@ use crate::begun::Begun;
 use crate::crew::Workers;
 use crate::worth::are_worth_threads;
 use crate::{LineReply, Store};
+use grove_line::{AnyTree, Asked, Line, Trees};
 use grove_tree::{Gate, NoMemory, OpenGate};
-use grove_wire::Line;
 use std::alloc::Global;
 use std::sync::Wait;
 use std::thread::Threads;
@@ -23,8 +23,8 @@ impl Store {
         ensures lawful { IfOk result (λ reply. IsLawfulAnswer self.old line.now reply.items self.new) }
         ensures err { OnErr result (self.new ≡ self.old) }
     {
-        let line = Line::copied(alloc, line)?;
-        let mut replies = self.reply_round(rt, alloc, &[&line], &OpenGate)?;
+        let mut lines = [asked_by_none(alloc, line)?];
+        let mut replies = self.reply_round(rt, alloc, &mut lines, &OpenGate)?;
         match replies.pop() {
             Some(reply) => Ok(reply.into_text()),
             None => unreachable!(),
@@ -38,8 +38,8 @@ impl Store {
         ensures whole { IfOk result (λ reply. RunsBatches self.old (line.now ∷ []) (reply.items ∷ []) self.new) }
         ensures err { OnErr result (self.new ≡ self.old) }
     {
-        let line = Line::copied(alloc, line)?;
-        let mut replies = self.reply_round_alone(alloc, &[&line])?;
+        let mut lines = [asked_by_none(alloc, line)?];
+        let mut replies = self.reply_round_alone(alloc, &mut lines)?;
         match replies.pop() {
             Some(reply) => Ok(reply.into_text()),
             None => unreachable!(),
@@ -66,29 +66,31 @@ impl Store {
         ensures err { OnErr result (self.new ≡ self.old) }
     {
         let mut texts = Vec::with_capacity(alloc, lines.len())?;
-        let copies = copies_of(alloc, lines)?;
-        let each = lines_in(alloc, &copies)?;
-        let replies = self.reply_round(rt, alloc, &each, gate)?;
+        let mut copies = copies_of(alloc, lines)?;
+        let replies = self.reply_round(rt, alloc, &mut copies, gate)?;
         for reply in replies {
             texts.push_reserved(reply.into_text());
         }
         Ok(texts)
     }
 
-    /// As `answer_round`, of lines that may have been read before. Each reply tells why its line is refused, if it is.
-    pub fn reply_round<R: Threads + Wait + Sync, G: Gate + Sync>(
+    /// As `answer_round`, of lines that may have been read before, for trees with the store's names. Each reply tells why
+    /// its line is refused, if it is.
+    pub fn reply_round<R: Threads + Wait + Sync, G: Gate + Sync, T: Trees>(
         &mut self,
         rt: &R,
         alloc: Global,
-        lines: &[&Line],
+        lines: &mut [Asked<T>],
         gate: &G,
     ) -> Result<Vec<LineReply>, NoMemory>
-        requires count { (0 < length lines.now) × (length lines.now ≤ 16) }
+        requires count { (0 < length lines.old) × (length lines.old ≤ 16) }
+        requires trees { T.includes self.old.rows }
         ensures length { IfOk result
-            (λ replies. length replies.items ≡ round_length self.old.rows (map (λ line. line.now) lines.now)) }
+            (λ replies. length replies.items ≡ round_length self.old.rows (map (λ asked. asked.line) lines.old)) }
         ensures round { IfOk result
             (λ replies. IsLawfulRound self.old
-            (take (length replies.items) (map (λ line. line.now) lines.now)) replies.items self.new) }
+            (take (length replies.items) (map (λ asked. asked.line) lines.old)) replies.items self.new) }
+        ensures same { lines.new ≡ lines.old }
         ensures err { OnErr result (self.new ≡ self.old) }
     {
         match self.begin_round(&Workers { rt }, alloc, lines)? {
@@ -104,25 +106,25 @@ impl Store {
     }
 }
 
+/// A copy of a line of which nothing is read yet.
+fn asked_by_none(alloc: Global, line: &[u8]) -> Result<Asked<AnyTree>, NoMemory>
+    requires { length line.now ≤ 1048576 }
+    ensures { IfOk result (λ asked. asked.line ≡ line.now) }
+{
+    Ok(Asked {
+        ticket: 0,
+        line: Line::copied(alloc, line)?,
+    })
+}
+
 /// Copies of the lines.
-fn copies_of(alloc: Global, lines: &[&[u8]]) -> Result<Vec<Line>, NoMemory>
+fn copies_of(alloc: Global, lines: &[&[u8]]) -> Result<Vec<Asked<AnyTree>>, NoMemory>
     requires { All (λ line. length line.now ≤ 1048576) lines.now }
-    ensures { IfOk result (λ copies. copies.items ≡ map (λ line. line.now) lines.now) }
+    ensures { IfOk result (λ copies. map (λ asked. asked.line) copies.items ≡ map (λ line. line.now) lines.now) }
 {
     let mut copies = Vec::with_capacity(alloc, lines.len())?;
     for line in lines {
-        copies.push(Line::copied(alloc, line)?)?;
+        copies.push(asked_by_none(alloc, line)?)?;
     }
     Ok(copies)
-}
-
-/// The lines, each by itself.
-fn lines_in(alloc: Global, lines: &[Line]) -> Result<Vec<&Line>, NoMemory>
-    ensures { IfOk result (λ each. map (λ line. line.now) each.items ≡ lines.now) }
-{
-    let mut each = Vec::with_capacity(alloc, lines.len())?;
-    for line in lines {
-        each.push(line)?;
-    }
-    Ok(each)
 }

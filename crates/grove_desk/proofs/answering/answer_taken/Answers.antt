@@ -2,7 +2,7 @@ use Rattle.std.proofs.Common.{◌≡◌, ℕ, ◌+◌, ◌<◌, [], ◌∷◌, �
 use Rattle.std.proofs.Common.{◌∙◌, arith, rules}
 use Rattle.std.proofs.lemmas.List.{length-set, drop-set-lt}
 use Rattle.std.proofs.Math.Seq.{map-set_same}
-use Rattle.grove_desk.specs.declared.asked.Asked.{Asked}
+use Rattle.grove_line.specs.declared.asked.Asked.{Asked}
 use Rattle.grove_desk.specs.Ledgers.{AreReceiptsOf}
 use Rattle.grove_desk.proofs.Keeping.{few_replies}
 use Rattle.grove_desk.proofs.Moving.{drop_step, same_next, drop_on}
@@ -12,9 +12,8 @@ use Rattle.grove_desk.proofs.answering.answer_taken.Goals as goal
 pub loop-reply-init : goal.loop-reply-init
 loop-reply-init g c =
     let given = c.into_iter-reply-iterator.ensures.into_iter_gives.0 in
-    let few = few_replies (λ (asked : Asked). asked.line) c.args.store.now c.reply_round.new.self
-    (map (λ line. line.now) c.deref.result.now) c.args.taken.now c.in_ok-replies.replies.items
-    (ap (map (λ line. line.now)) c.deref.ensures.value ∙ c.in_ok-lines.ensures)
+    let few = few_replies (λ (asked : Asked _). asked.line) c.args.store.now c.reply_round.new.self
+    (map (λ asked. asked.line) c.args.taken.now) c.args.taken.now c.in_ok-replies.replies.items refl
     c.in_ok-replies.ensures.round in
     rw c.in_ok-receipts.ensures.items record {
       next = tt;
@@ -24,9 +23,9 @@ loop-reply-init g c =
       within = omega arith;
       noted = record { asked = refl; replied = refl; counted = search rules; numbered = search rules };
       room = refl;
-      long = refl;
-      left = refl;
-      tickets = refl;
+      long = ap length c.reply_round.ensures.same;
+      left = c.reply_round.ensures.same;
+      tickets = ap (map (λ asked. asked.ticket)) c.reply_round.ensures.same;
     }
 
 pub bounds-taken-place : goal.bounds-taken-place
@@ -63,11 +62,11 @@ loop-reply-preserved g c =
     let asked = same_next c.loop-reply.taken c.args.taken.now i c.len-place.result c.index-taken-place.result place
     c.loop-reply.invariant.left in
     let next = noted_more
-    (λ (a : Asked). a.line) c.args.first c.args.taken.now replies c.reply_round.new.self.rounds
+    (λ (a : Asked _). a.line) c.args.first c.args.taken.now replies c.reply_round.new.self.rounds
     c.loop-reply.receipts.items c.push_reserved.new.self.items i c.len-place.result
     c.number_of.result c.take.result.items c.into_text.result.items c.index-taken-place.result c.in-Some.reply within
     few refl place c.loop-reply.invariant.noted
-    (c.take.ensures ∙ ap (λ (a : Asked). a.line) asked) c.into_text.ensures step.1 c.number_of.ensures
+    (c.take.ensures ∙ ap (λ (a : Asked _). a.line) asked) c.into_text.ensures step.1 c.number_of.ensures
     (c.push_reserved.ensures.items
     ∙ ap (λ (n : ℕ). c.loop-reply.receipts.items ++ record
     { number = c.number_of.result; line = c.take.result.items; reply = c.into_text.result.items; rounds = n } ∷ [])
@@ -80,7 +79,7 @@ loop-reply-preserved g c =
       rest = step.2 ∙ sym (ap (λ (n : ℕ). drop n replies) more);
       within = omega arith;
       noted = subst (λ (n : ℕ). AreReceiptsOf c.args.first
-          (map (λ (a : Asked). a.line) c.args.taken.now)
+          (map (λ (a : Asked _). a.line) c.args.taken.now)
           (take n replies) c.reply_round.new.self.rounds c.push_reserved.new.self.items) (sym more) next.1;
       room = c.push_reserved.ensures.capacity ∙ c.loop-reply.invariant.room;
       long = length-set c.loop-reply.taken c.len-place.result _ ∙ long;
@@ -90,19 +89,18 @@ loop-reply-preserved g c =
           ∙ drop_on c.loop-reply.taken c.args.taken.now i c.index-taken-place.result (omega arith)
           (omega arith) c.loop-reply.invariant.left
           ∙ sym (ap (λ (n : ℕ). drop n c.args.taken.now) more);
-      tickets = map-set_same (λ (a : Asked). a.ticket) c.loop-reply.taken c.len-place.result _
+      tickets = map-set_same (λ (a : Asked _). a.ticket) c.loop-reply.taken c.len-place.result _
           c.index-taken-place.result refl
           ∙ c.loop-reply.invariant.tickets;
     }
 
 pub returns-clause-answered : goal.returns-clause-answered
 returns-clause-answered g c =
-    let (lines, round) = noted_round (λ (asked : Asked). asked.line) c.args.first c.args.taken.now
+    let (lines, round) = noted_round (λ (asked : Asked _). asked.line) c.args.first c.args.taken.now
     c.in_ok-replies.replies.items c.into_iter-reply-iterator.result.rest.items
     c.loop-reply.reply-iterator.rest.items
-    (map (λ line. line.now) c.deref.result.now) c.loop-reply.receipts.items c.args.store.now c.reply_round.new.self
+    (map (λ asked. asked.line) c.args.taken.now) c.loop-reply.receipts.items c.args.store.now c.reply_round.new.self
     (omega (arith, c.in-None.ensures.steps.0, c.loop-reply.reply-iterator.rest.ok.0)) c.loop-reply.invariant.rest
     c.loop-reply.invariant.within c.into_iter-reply-iterator.ensures.into_iter_gives.0
-    (ap (map (λ line. line.now)) c.deref.ensures.value ∙ c.in_ok-lines.ensures)
-    c.in_ok-replies.ensures.round c.loop-reply.invariant.noted in
+    refl c.in_ok-replies.ensures.round c.loop-reply.invariant.noted in
     record { lines = lines; round = round; left = c.loop-reply.invariant.left }

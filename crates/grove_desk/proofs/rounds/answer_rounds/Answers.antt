@@ -2,10 +2,11 @@ use Rattle.std.proofs.Common.{◌≡◌, ◌<◌, ◌≤◌, ◌+◌, ◌-◌, �
 use Rattle.std.proofs.Common.{subst, ◌∙◌, arith, length-append}
 use Rattle.std.specs.Vec.{vec_len, vec_capacity}
 use Rattle.std.specs.Option.{option_map}
-use Rattle.grove_desk.specs.declared.asked.Asked.{Asked}
+use Rattle.grove_line.specs.declared.asked.Asked.{Asked}
 use Rattle.grove_desk.specs.declared.receipt.Receipt.{Receipt}
 use Rattle.grove_desk.specs.Receipts.{AreNumberedFrom}
 use Rattle.grove_desk.specs.Ledgers.{next_number, AreAnswered, AreAnsweredInTurn}
+use Rattle.grove_desk.proofs.Keeping.{next_of}
 use Rattle.grove_desk.proofs.Turns.{in_turn, in_turn_more, in_turn_same, numbered_on, put_behind, all_behind, behind_same}
 use Rattle.grove_desk.proofs.Turns.{tickets_behind, same_long, put_together, was_err, is_none}
 use Rattle.grove_desk.proofs.rounds.answer_rounds.Goals as goal
@@ -20,6 +21,7 @@ loop-taken-init g c =
       tickets = c.answer_first.ensures.tickets;
       long = same_long c.args.taken.now c.answer_first.new.lines c.answer_first.ensures.tickets;
       plain = is_none c.answer_first.new.journal (sym c.is_some.ensures ∙ c.if-is_some.false);
+      names = (next_of _ _ _ told.answered.round).names;
     }
 
 pub loop-taken-preserved : goal.loop-taken-preserved
@@ -40,10 +42,10 @@ loop-taken-preserved g c =
     let behind = all_behind lines done in
     let rest = c.answer_first-in-loop-taken.new.lines in
     let store = c.answer_first-in-loop-taken.new.store in
-    let whole = subst (λ (ls : List Asked). AreAnswered c.loop-taken.store store ls rest more) behind told.answered in
+    let whole = subst (λ (ls : List (Asked _)). AreAnswered c.loop-taken.store store ls rest more) behind told.answered in
     let answered = subst (λ (n : ℕ). AreAnswered c.loop-taken.store store (drop n lines) rest more) place whole in
     let tickets = tickets_behind lines rest done
-    (c.answer_first-in-loop-taken.ensures.tickets ∙ ap (map (λ (asked : Asked). asked.ticket)) behind)
+    (c.answer_first-in-loop-taken.ensures.tickets ∙ ap (map (λ (asked : Asked _). asked.ticket)) behind)
     ∙ so_far.tickets in
     let new = take done lines ++ (rest ++ drop (length lines - done) (drop done lines)) in
     let back : drop (length receipts) new ≡ rest =
@@ -56,6 +58,7 @@ loop-taken-preserved g c =
       tickets = tickets;
       long = same_long c.args.taken.now new tickets;
       plain = told.journal ∙ ap (option_map _) so_far.plain;
+      names = (next_of _ _ _ told.answered.round).names ∙ so_far.names;
     }
 
 pub returns-then-is_some-clause-answered : goal.returns-then-is_some-clause-answered
@@ -83,7 +86,7 @@ returns-clause-answered g c =
 pub returns-clause-tickets : goal.returns-clause-tickets
 returns-clause-tickets g c =
     let so_far = c.loop-taken.invariant in
-    let tickets : List Asked → List ℕ = map (λ (asked : Asked). asked.ticket) in
+    let tickets : List (Asked _) → List ℕ = map (λ (asked : Asked _). asked.ticket) in
     elim c.loop-taken-test.branch [
       | else-loop-taken-test w ↦ ap tickets w.taken-is ∙ so_far.tickets
       | then-loop-taken-test+then-is_err w ↦ ap tickets w.taken-is ∙ so_far.tickets

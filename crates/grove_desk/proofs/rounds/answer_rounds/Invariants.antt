@@ -1,4 +1,5 @@
 use Rattle.std.proofs.Common.{◌≡◌, ◌-◌, None, length, map}
+use Rattle.grove_tree.specs.Weights.{unweighed}
 use Rattle.grove_desk.specs.Receipts.{AreNumberedFrom}
 use Rattle.grove_desk.specs.Ledgers.{next_number, AreAnsweredInTurn}
 use Rattle.grove_desk.proofs.rounds.answer_rounds.Given as goal
@@ -10,6 +11,7 @@ invariant-loop-taken g l = record {
   tickets : map (λ asked. asked.ticket) l.taken ≡ map (λ asked. asked.ticket) l.fn.taken;
   long : length l.taken ≡ length l.fn.taken;
   plain : l.journal ≡ None;
+  names : unweighed l.store.rows ≡ unweighed l.fn.store.rows;
 }
 
 abbrev pub decreases-loop-taken : goal.decreases-loop-taken

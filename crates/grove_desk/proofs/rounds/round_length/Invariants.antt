@@ -1,4 +1,4 @@
 use Rattle.grove_desk.proofs.rounds.round_length.Given as goal
 
 abbrev pub invariant-loop-place : goal.invariant-loop-place
-invariant-loop-place l = Unit {0}
+invariant-loop-place g l = Unit {0}

@@ -1,36 +1,51 @@
-use Rattle.std.proofs.Common.{◌≡◌, ℕ, ◌-◌, ◌∷◌, [], ◌++◌, length, get_or, subst, ◌∙◌, ap, arith}
+use Rattle.std.proofs.Common.{◌≡◌, ◌<◌, ℕ, ◌-◌, ◌∷◌, [], ◌++◌, length, get_or, set, subst, ◌∙◌, ap, arith}
+use Rattle.std.proofs.lemmas.List.{set-get_or}
 use Rattle.grove_store.specs.Rounds.{lists_in}
 use Rattle.grove_store.specs.Parts.{FitsRoom, NoneFits}
 use Rattle.grove_store.proofs.Together.{read_one_more, read_stops, read_ends, round_is}
 use Rattle.grove_store.proofs.round.round_of.Goals as goal
-use Rattle.grove_store.proofs.round.round_of.Goals.{else-loop-line-test, then-loop-line-test+in_ok-more+in_default}
+use Rattle.grove_store.proofs.round.round_of.Goals.{else-loop-place-test, then-loop-place-test+in_ok-more+in_default}
 
-pub loop-line-preserved : goal.loop-line-preserved
-loop-line-preserved c =
-    let item = c.line-item.result in
-    let left = 256 - c.len-in-loop-line.result in
-    let at : item ≡ get_or c.args.others.now c.loop-line.line-index item = c.line-item.is in
-    let fits = subst (λ line. FitsRoom (lists_in c.args.tree.now line.now) left c.in-Some.more.items) at
+pub loop-place-preserved : goal.loop-place-preserved
+loop-place-preserved g c =
+    let at = c.loop-place.place in
+    let others = c.loop-place.others in
+    let item = c.index-others-place.result in
+    let same = c.loop-place.invariant.same in
+    let left = 256 - c.len-room.result in
+    let fits = subst (λ os. FitsRoom (lists_in c.args.tree.now (get_or os at item).line) left c.in-Some.more.items) same
     (rw c.in-Some.is at c.in_ok-more.ensures.lists) in
     let fit = rw c.in-Some.is at c.in_ok-more.ensures.fit in
-    let room : 256 - c.len-in-loop-line.result ≡ 256 - length c.loop-line.lists.items = omega (arith, c.loop-line.lists.ok.0) in
-    let count : c.len-in-loop-line-2.result ≡ length c.in-Some.more.items = omega (arith, c.in-Some.more.ok.0) in
-    let next = read_one_more c.args.tree.now c.args.first.items c.args.others.now c.loop-line.line-index _ _ c.loop-line.counts.items c.push-in-loop-line.new.self.items c.loop-line.lists.items
-    c.append.new.self.items c.in-Some.more.items _ c.loop-line-test.true room fits fit (c.in_ok-push-2.ensures.items ∙ ap (λ (n : ℕ). c.loop-line.counts.items ++ n ∷ []) count)
-    c.in_ok-append.ensures.items c.loop-line.invariant.has c.loop-line.invariant.longest in
-    record { has = next.0; longest = next.1 }
+    let room : left ≡ 256 - length c.loop-place.lists.items = omega (arith, c.loop-place.lists.ok.0) in
+    let count : c.len-in-loop-place.result ≡ length c.in-Some.more.items = omega (arith, c.in-Some.more.ok.0) in
+    let within : at < length c.args.others.now = omega arith in
+    let next = read_one_more (λ asked. asked.line) c.args.tree.now c.args.first.items c.args.others.now at _ _
+    c.loop-place.counts.items c.push-in-loop-place.new.self.items c.loop-place.lists.items c.append.new.self.items
+    c.in-Some.more.items item within room fits fit
+    (c.in_ok-push-2.ensures.items ∙ ap (λ (n : ℕ). c.loop-place.counts.items ++ n ∷ []) count)
+    c.in_ok-append.ensures.items c.loop-place.invariant.has c.loop-place.invariant.longest in
+    record {
+      same = ap (λ line. set others at record { ticket = (get_or others at item).ticket; line = line })
+          c.batch_within.ensures.same ∙ set-get_or others at item ∙ same;
+      has = next.0;
+      longest = next.1;
+    }
 
-pub returns : goal.returns
-returns c = elim c.loop-line-test.branch [
-  | else-loop-line-test w ↦
-      round_is c.args.tree.now c.args.first.items _ c.loop-line.line-index _ c.loop-line.counts.items c.loop-line.lists.items c.loop-line.invariant.has c.loop-line.invariant.longest
-      (read_ends c.args.tree.now c.args.others.now c.loop-line.line-index (256 - length c.loop-line.lists.items) w.loop-line-test.false)
-  | then-loop-line-test+in_ok-more+in_default w ↦
-      let item = w.line-item.result in
-      let at : item ≡ get_or c.args.others.now c.loop-line.line-index item = w.line-item.is in
-      let none = subst (λ line. NoneFits (lists_in c.args.tree.now line.now) (256 - w.len-in-loop-line.result)) at
-      (rw w.in_default.is at w.in_ok-more.ensures.lists) in
-      let room : 256 - w.len-in-loop-line.result ≡ 256 - length c.loop-line.lists.items = omega (arith, c.loop-line.lists.ok.0) in
-      round_is c.args.tree.now c.args.first.items _ c.loop-line.line-index _ c.loop-line.counts.items c.loop-line.lists.items c.loop-line.invariant.has c.loop-line.invariant.longest
-      (read_stops c.args.tree.now c.args.others.now c.loop-line.line-index _ (256 - length c.loop-line.lists.items) _ w.loop-line-test.true room none)
+pub returns-clause-round : goal.returns-clause-round
+returns-clause-round g c = elim c.loop-place-test.branch [
+  | else-loop-place-test w ↦ round_is c.args.tree.now c.args.first.items _ c.loop-place.place _
+      c.loop-place.counts.items c.loop-place.lists.items c.loop-place.invariant.has c.loop-place.invariant.longest
+      (read_ends (λ asked. asked.line) c.args.tree.now c.args.others.now c.loop-place.place
+      (256 - length c.loop-place.lists.items) (omega arith))
+  | then-loop-place-test+in_ok-more+in_default w ↦
+      let at = c.loop-place.place in
+      let item = w.index-others-place.result in
+      let left = 256 - w.len-room.result in
+      let none = subst (λ os. NoneFits (lists_in c.args.tree.now (get_or os at item).line) left)
+      c.loop-place.invariant.same (rw w.in_default.is at w.in_ok-more.ensures.lists) in
+      let room : left ≡ 256 - length c.loop-place.lists.items = omega (arith, c.loop-place.lists.ok.0) in
+      round_is c.args.tree.now c.args.first.items _ at _ c.loop-place.counts.items c.loop-place.lists.items
+      c.loop-place.invariant.has c.loop-place.invariant.longest
+      (read_stops (λ asked. asked.line) c.args.tree.now c.args.others.now at left
+      (256 - length c.loop-place.lists.items) item (omega arith) room none)
 ]

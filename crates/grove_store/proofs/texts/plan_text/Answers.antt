@@ -1,7 +1,6 @@
-use Rattle.std.proofs.Common.{refl, sym, ap, subst, ◌∙◌}
+use Rattle.std.proofs.Common.{sym, ap, subst, ◌∙◌}
 use Rattle.grove_access.specs.Lists.{nodes_of, lengths_of}
 use Rattle.grove_build.specs.Keeping.{AreTargetsOf}
-use Rattle.grove_wire.specs.Replies.{planned_data}
 use Rattle.grove_wire.proofs.LeastFits.{plan_fits, flow_fits}
 use Rattle.grove_store.specs.Alone.{TellsPlan}
 use Rattle.grove_store.specs.Parts.{IsTextOfReply}

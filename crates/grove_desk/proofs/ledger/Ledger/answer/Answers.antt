@@ -3,8 +3,12 @@ use Rattle.std.specs.Prelude.{All}
 use Rattle.std.proofs.lemmas.Bool.{false≢true}
 use Rattle.grove_desk.specs.Receipts.{ReceiptState, AreNumberedFrom}
 use Rattle.grove_desk.specs.Histories.{IsDeskReceipt}
+use Rattle.grove_desk.proofs.Keeping.{led_names}
 use Rattle.grove_desk.proofs.Turns.{accounts_more, all_answered, rounds_lead}
 use Rattle.grove_desk.proofs.ledger.Ledger.answer.Goals as goal
+
+pub answer_rounds-requires-clause-names : goal.answer_rounds-requires-clause-names
+answer_rounds-requires-clause-names g c κs within = led_names _ _ c.self.invariant.account.led
 
 pub keep-requires : goal.keep-requires
 keep-requires g c =

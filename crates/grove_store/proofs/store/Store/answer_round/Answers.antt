@@ -13,9 +13,8 @@ loop-reply-init g c =
     length-map c.args.lines.now (λ line. line.now) in
     let within = rounds_are_within c.args.self.now.rows (map (λ line. line.now) c.args.lines.now)
     (omega (arith, c.requires.count.0)) in
-    let same : map (λ line. line.now) c.deref-2.result.now ≡ map (λ line. line.now) c.args.lines.now =
-    ap (map (λ line. line.now)) c.deref-2.ensures.value ∙ c.in_ok-each.ensures ∙ c.deref.ensures.value
-    ∙ c.in_ok-copies.ensures in
+    let same : map (λ asked. asked.line) c.deref_mut.result.now ≡ map (λ line. line.now) c.args.lines.now =
+    ap (map (λ asked. asked.line)) c.deref_mut.ensures.value ∙ c.in_ok-copies.ensures in
     let long : length c.into_iter-reply-iterator.result.rest.items ≡ length c.in_ok-replies.replies.items =
     ap length given in
     rw c.in_ok-texts.ensures.items record {
@@ -68,9 +67,8 @@ loop-reply-preserved g c = record {
 
 pub returns : goal.returns
 returns g c =
-    let same : map (λ line. line.now) c.deref-2.result.now ≡ map (λ line. line.now) c.args.lines.now =
-    ap (map (λ line. line.now)) c.deref-2.ensures.value ∙ c.in_ok-each.ensures ∙ c.deref.ensures.value
-    ∙ c.in_ok-copies.ensures in
+    let same : map (λ asked. asked.line) c.deref_mut.result.now ≡ map (λ line. line.now) c.args.lines.now =
+    ap (map (λ asked. asked.line)) c.deref_mut.ensures.value ∙ c.in_ok-copies.ensures in
     let (long, round) = taken_all (λ text. text.items) c.loop-reply.texts.items c.loop-reply.reply-iterator.rest.items
     c.into_iter-reply-iterator.result.rest.items c.in_ok-replies.replies.items
     (map (λ line. line.now) c.args.lines.now)

@@ -8,7 +8,7 @@ use Rattle.grove_store.proofs.store.Store.reply_round.Goals as goal
 pub returns-then-are_worth_threads-clause-length : goal.returns-then-are_worth_threads-clause-length
 returns-then-are_worth_threads-clause-length g c =
     let now = c.args.self.now in
-    let lines = map (λ line. line.now) c.args.lines.now in
+    let lines = map (λ asked. asked.line) c.args.lines.now in
     let left = subst (λ (begun : Begun). Begins (AnswersFirst now lines) now begun c.begin_round.new.self) c.in-Jobs.is
     c.in_ok-replies.ensures.begun in
     IfOk-weaker c.run_together.result _ _
@@ -20,7 +20,7 @@ returns-then-are_worth_threads-clause-length g c =
 pub returns-clause-length : goal.returns-clause-length
 returns-clause-length g c =
     let now = c.args.self.now in
-    let lines = map (λ line. line.now) c.args.lines.now in
+    let lines = map (λ asked. asked.line) c.args.lines.now in
     let left = subst (λ (begun : Begun). Begins (AnswersFirst now lines) now begun c.begin_round.new.self) c.in-Jobs.is
     c.in_ok-replies.ensures.begun in
     IfOk-weaker c.run_alone.result _ _
