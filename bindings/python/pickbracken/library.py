@@ -10,9 +10,10 @@ from array import array
 from enum import Enum
 from functools import lru_cache
 from pathlib import Path
-from typing import Any, Callable, Iterator, List, NoReturn, Optional, Sequence, Tuple
+from struct import Struct
+from typing import Any, Callable, Iterator, List, Mapping, NoReturn, Optional, Sequence, Tuple
 
-from .accesses import MOST_ACCESSES
+from .accesses import MOST_ACCESSES, Access
 from .faults import Closed, NoMemory, OtherVersion, Refused, fault_text
 from .version import __version__, packed, unpacked
 
@@ -21,11 +22,15 @@ DONE, REFUSED, ROOM, MEMORY, CLOSED = 0, 1, 2, 3, 4
 FILE, SONAME = "libgrove.so", "libgrove.so.0"
 # The room that a text is given at first; and what is kept of it for the next, if there was more in it.
 FIRST_ROOM, KEPT_ROOM = 1 << 24, 1 << 20
+# So large is the block by which glibc learns to keep free memory.
+LARGE_BLOCK = 1 << 22
 # A step is two numbers of 32 bits, and a row of a flow six of 64, the first of which has its node in its lower half.
 STEP, ROW, NODE = 2, 6, 0xFFFF_FFFF
-# A node of a part of a tree is three numbers of 32 bits. What is told of a plan that was made is six: the lower half of
-# its cost, the upper one, how many steps and rows it has, the place of a fault, and one that stands for nothing.
-PART, PLANNED = 3, 6
+# A node of a part of a tree is three numbers of 32 bits.
+PART = 3
+# What is told of a plan that was made: its cost, how many steps and rows it has, and the place of a fault.
+PLANNED = Struct("QIII4x")
+planned_in = PLANNED.unpack_from
 
 
 class Told(ctypes.Structure):
@@ -79,7 +84,7 @@ REPLY = "grove_c_store_reply"
 BUILD, REWEIGH = "grove_c_tree_build", "grove_c_tree_reweigh"
 PLAN_NODES, PLAN_PART = "grove_c_tree_plan_nodes", "grove_c_plan_part"
 CHECK_NODES, JUDGE_NODES = "grove_c_tree_check_nodes", "grove_c_tree_judge_nodes"
-OVER_NUMBERS = (BUILD, REWEIGH, PLAN_NODES, PLAN_PART, CHECK_NODES, JUDGE_NODES)
+OVER_NUMBERS = (BUILD, REWEIGH, PLAN_NODES, CHECK_NODES, JUDGE_NODES)
 VERSION = "grove_c_version"
 
 
@@ -103,7 +108,14 @@ def loaded() -> ctypes.CDLL:
     version: int = getattr(library, VERSION)()
     if version != packed(__version__):
         raise OtherVersion(unpacked(version), __version__)
+    keep_heap()
     return library
+
+
+def keep_heap() -> None:
+    """Has glibc keep what a large plan frees for the next one. It gives the system back what is free at the heap's end,
+    but for twice as much as the largest block had that was ever freed. (Nobody writes to this one.)"""
+    bytes(LARGE_BLOCK)
 
 
 def found() -> ctypes.CDLL:
@@ -140,6 +152,8 @@ def typed(library: ctypes.CDLL) -> ctypes.CDLL:
     for name in OVER_NUMBERS:
         # (What they take has its type already. To have it looked at once more takes as long as a short plan.)
         declare(library, name, None, ctypes.c_uint32)
+    # (What this takes is new each time, so it has no type yet.)
+    declare(library, PLAN_PART, [*[ctypes.c_void_p, ctypes.c_size_t] * 5, ctypes.c_void_p], ctypes.c_uint32)
     return library
 
 
@@ -286,34 +300,52 @@ def count_of(numbers: array[int], each: int = 1) -> Given:
     return ctypes.c_size_t.from_param(len(numbers) // each)
 
 
-def room_for(nodes: int, accesses: int) -> Tuple[array[int], array[int]]:
+def room_for(nodes: int, accesses: int, wants_flow: bool = True) -> Tuple[array[int], array[int]]:
     """Arrays for the steps and the rows of any settled plan: it locks no node twice, and each row has another node."""
-    return short(STEP * (2 * nodes + accesses)), long(ROW * nodes)
+    return short(STEP * (2 * nodes + accesses)), long(ROW * nodes if wants_flow else 0)
+
+
+def room_for_planned() -> array[int]:
+    return short(PLANNED.size // 4)
 
 
 class TreeCalls:
-    """The calls over numbers by a handle that holds the tree of these paths, with arrays for what goes in and comes
-    out. Their caller has all of this alone; a call is about the first `count` of `nodes` and `lengths`."""
+    """The calls over numbers by a handle that holds the tree of these paths, whose numbers are given, too, with arrays
+    for what goes in and comes out. Their caller has all of this alone."""
 
-    def __init__(self, handle: Handle, paths: Sequence[str]) -> None:
-        self.paths = paths
+    def __init__(self, handle: Handle, number_of: Mapping[str, int], paths: Sequence[str]) -> None:
+        close_after(self, Close.TREE, handle)
+        self.number_of, self.paths = number_of, paths
         self.plans, self.checks, self.judges = call_of(PLAN_NODES), call_of(CHECK_NODES), call_of(JUDGE_NODES)
         self.nodes, self.lengths = short(MOST_ACCESSES), short(MOST_ACCESSES)
         self.steps, self.rows = room_for(len(paths), MOST_ACCESSES)
-        self.planned, self.checked = short(PLANNED), Checked()
+        self.planned, self.checked = room_for_planned(), Checked()
         by, nodes, lengths = ctypes.byref(handle), at(self.nodes), at(self.lengths)
         buffers = at(self.steps), count_of(self.steps, STEP), at(self.rows), count_of(self.rows, ROW)
         # What each call takes of a list, by its length, and what else it takes to make a plan.
         self.lists = [(by, nodes, size, lengths, size) for size in SIZES]
         self.planning = [(*given, *buffers, at(self.planned)) for given in self.lists]
 
-    def plan(self, count: int) -> Settled:
+    def put(self, accesses: Sequence[Access]) -> int:
+        """Puts the nodes and the lengths of a list where calls have them, and gives how many there are."""
+        number_of, nodes, lengths = self.number_of, self.nodes, self.lengths
+        place = 0
+        try:
+            for access in accesses:
+                nodes[place] = number_of[access.path]
+                lengths[place] = access.length
+                place += 1
+        except (IndexError, KeyError):
+            raise Refused("limit list" if len(accesses) > MOST_ACCESSES else f"no-path list {place}") from None
+        return place
+
+    def plan(self, accesses: Sequence[Access]) -> Settled:
         """The settled plan of a list, and its flow."""
-        status = self.plans(*self.planning[count])
-        low, high, steps, rows, place, _ = self.planned
+        status = self.plans(*self.planning[self.put(accesses)])
+        cost, steps, rows, place = planned_in(self.planned)
         if status:
             fail(status, f"shape list {place}")
-        return high << 32 | low, self.steps[: STEP * steps], self.rows[: ROW * rows]
+        return cost, self.steps[: STEP * steps], self.rows[: ROW * rows]
 
     def check(self, count: int, steps: array[int], rows: array[int]) -> int:
         """What the steps cost, if the rows prove them least."""
@@ -336,16 +368,16 @@ class TreeCalls:
 def plan_part(part: array[int], nodes: array[int], lengths: array[int], wants_flow: bool = False) -> Settled:
     """The settled plan of accesses of these places of a part of a tree, and its flow if that is wanted. A node of the
     part is three numbers: its own in the whole tree, the place of its parent in the part, and its weight."""
-    planned = short(PLANNED)
-    steps, rows = room_for(len(part) // PART, len(nodes))
-    room = count_of(rows, ROW) if wants_flow else SIZES[0]
-    listed = at(nodes), count_of(nodes), at(lengths), count_of(lengths)
-    buffers = at(steps), count_of(steps, STEP), at(rows), room
-    status = call_of(PLAN_PART)(at(part), count_of(part, PART), *listed, *buffers, at(planned))
-    low, high, step_count, row_count, place, _ = planned
+    count, planned = len(part) // PART, room_for_planned()
+    steps, rows = room_for(count, len(nodes), wants_flow)
+    at_part, at_steps, at_rows, at_planned = [numbers.buffer_info()[0] for numbers in (part, steps, rows, planned)]
+    given = at_part, count, *nodes.buffer_info(), *lengths.buffer_info()
+    status = call_of(PLAN_PART)(*given, at_steps, len(steps) // STEP, at_rows, len(rows) // ROW, at_planned)
+    cost, step_count, row_count, place = planned_in(planned)
     if status:
         fail(status, f"shape {place}")
-    return high << 32 | low, steps[: STEP * step_count], rows[: ROW * row_count if wants_flow else 0]
+    del steps[STEP * step_count :], rows[ROW * row_count :]
+    return cost, steps, rows
 
 
 def build(handle: Handle, parents: array[int], weights: array[int]) -> None:

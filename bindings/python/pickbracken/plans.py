@@ -8,7 +8,7 @@ from __future__ import annotations
 
 from typing import Iterable, List, Mapping, Sequence, Tuple
 
-from .library import Settled
+from .library import STEP, Settled
 from .lists import Lists, Wanted
 from .planning import Plan
 from .shapes import Shapes, settled_with_flow
@@ -38,9 +38,8 @@ class Plans(Lists[Plan]):
         if not wanted:
             return Plan(0, (), ()), 0
         _, nodes, shape = self.cut(wanted, weights)
-        paths = [self.tree.paths[node] for node in nodes]
-        plan = Plan.of(self.shapes.made(shape), paths)
-        return plan, len(plan.steps)
+        settled, paths = self.shapes.made(shape), self.tree.paths
+        return Plan.of(settled, [paths[node] for node in nodes]), len(settled[1]) // STEP
 
     def reweigh(self, waits: Mapping[str, int]) -> int:
         """Makes new weights of the old ones and of how often each node was waited for: not at all if it isn't named

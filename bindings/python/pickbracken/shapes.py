@@ -8,11 +8,10 @@ no name. So a plan is kept in numbers for each shape of these.
 from __future__ import annotations
 
 from array import array
-from itertools import chain
 from typing import Callable, Dict, Generic, List, Mapping, NamedTuple, Sequence, Tuple, TypeVar
 
 from .faults import NoNode, Refused
-from .library import STEP, Settled, plan_part
+from .library import PART, STEP, Settled, plan_part
 from .steps import ACCESS, LOCK, NUMBERS, UNLOCK
 from .tree import names_of
 
@@ -52,8 +51,9 @@ def settled_with_flow(shape: Shape) -> Settled:
 
 
 def planned(shape: Shape, wants_flow: bool) -> Settled:
-    nodes = zip(range(len(shape.parents)), shape.parents, shape.weights)
-    part = array("I", list(chain.from_iterable(nodes)))
+    nodes = range(len(shape.parents))
+    part = array("I", bytes(12 * len(nodes)))
+    part[::PART], part[1::PART], part[2::PART] = array("I", nodes), array("I", shape.parents), array("I", shape.weights)
     return plan_part(part, array("I", shape.places), array("I", shape.lengths), wants_flow)
 
 

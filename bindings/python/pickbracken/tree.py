@@ -3,6 +3,7 @@
 from __future__ import annotations
 
 import json
+from array import array
 from dataclasses import dataclass, field, replace
 from functools import cached_property
 from typing import Any, Dict, Iterable, Iterator, List, Mapping, Optional, Sequence, Tuple, Union
@@ -83,8 +84,7 @@ class Tree:
     def reweigh(self, waits: Mapping[str, int]) -> Tree:
         """The tree with new weights, made of the old ones and of how often each node was waited for: not at all if its
         path isn't named (docs/PROTOCOL.md has the rule)."""
-        parents, weights = [node.parent for node in self.nodes], [node.weight for node in self.nodes]
-        kept, weighed = self.kept.reweighed(parents, weights, waits)
+        kept, weighed = self.kept.reweighed(waits)
         made = Tree(tuple([replace(node, weight=weight) for node, weight in zip(self.nodes, weighed)]))
         made.keep(kept)
         return made
@@ -108,7 +108,9 @@ class Tree:
     @cached_property
     def kept(self) -> KeptTree:
         """The tree as the library keeps it."""
-        return KeptTree(opened(self.document()), self.paths())
+        handle = opened(self.document())
+        parents, weights = [node.parent or 0 for node in self.nodes], [node.weight for node in self.nodes]
+        return KeptTree(handle, array("I", parents), array("I", weights), self.paths())
 
     def keep(self, kept: KeptTree) -> None:
         """Takes over what the library keeps of this tree already."""

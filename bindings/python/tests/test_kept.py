@@ -42,19 +42,44 @@ class KeptTrees(unittest.TestCase):
             self.assertEqual(other.plan(accesses), wanted)
 
     def test_threads_plan_over_one_tree(self) -> None:
-        accesses = [Access.get("/a"), Access.get("/b")]
-        wanted, came = STOCK.plan(accesses), []
+        lists = [[Access.get(path).lasting(1 + turn) for path in ("/a", "/b")] for turn in range(4)]
+        wanted, came = [Tree(STOCK.nodes).plan(accesses) for accesses in lists], []
 
-        def plan_often() -> None:
-            plans = [STOCK.plan(accesses) for _ in range(100)]
-            came.append(plans == [wanted] * 100)
+        def plan_often(turn: int) -> None:
+            plans = [STOCK.plan(lists[turn]) for _ in range(1_000)]
+            costs = [STOCK.check(lists[turn], plan) for plan in plans]
+            came.append(plans == [wanted[turn]] * 1_000 and costs == [wanted[turn].cost] * 1_000)
 
-        threads: List[threading.Thread] = [threading.Thread(target=plan_often) for _ in range(4)]
+        threads = [threading.Thread(target=plan_often, args=(turn,)) for turn in range(4)]
+        self.addCleanup(sys.setswitchinterval, sys.getswitchinterval())
+        sys.setswitchinterval(1e-6)
         for thread in threads:
             thread.start()
         for thread in threads:
             thread.join()
         self.assertEqual(came, [True] * 4)
+        self.assertLessEqual(len(STOCK.kept.free), 1 + len(threads))
+
+    def test_a_call_has_a_handle_alone(self) -> None:
+        """And another one is made of the same tree, also of one with new weights."""
+        accesses = [Access.get("/a"), Access.get("/b").lasting(3)]
+        for tree in (Tree(STOCK.nodes), STOCK.reweigh({"/b": 700})):
+            wanted, kept = Tree(tree.nodes).plan(accesses), tree.kept
+            calls = kept.taken()
+            self.assertEqual(tree.plan(accesses), wanted)
+            self.assertEqual(tree.judge(accesses, wanted.steps).cost, wanted.cost)
+            self.assertEqual(len(kept.free), 1)
+            self.assertIsNot(kept.free[0], calls)
+
+    def test_a_handle_is_put_back_after_a_refusal(self) -> None:
+        tree = Tree(STOCK.nodes)
+        wanted, free = tree.plan([Access.get("/a")]), list(tree.kept.free)
+        for accesses in ([Access.get("/c")], [Access.get("/a")] * 65):
+            with self.assertRaises(Refused):
+                tree.plan(accesses)
+            with self.assertRaises(Refused):
+                tree.check(accesses, wanted)
+        self.assertEqual(tree.kept.free, free)
 
     def test_trees_that_are_refused_are_refused_again(self) -> None:
         heavy = Tree.from_paths({"/": 1001})
