@@ -29,9 +29,9 @@ TRIED = "files that a crash, a failed call, a kill or damage left"
 TIMES = int(os.environ.get("CRASHES_TIMES", "1"))
 # At how many places what isn't synced is cut, if it is long.
 MOST_CUTS, FEW_CUTS, FEWEST_CUTS = 256, 24, 8
-# How many lines one client sends, and each of sixteen; how many turns there are at lines with waits; how many rounds
-# there are until a new file is needed, and some more.
-LINES, SHARED_LINES, PAGE_LINES, TURNS, ROUNDS = 24, 5, 12, 4, 350
+# How many lines one client sends, and each of sixteen; how many turns there are at lines with waits, and at most, if a
+# busy machine lets no two threads meet; how many rounds there are until a new file is needed, and some more.
+LINES, SHARED_LINES, PAGE_LINES, TURNS, MOST_TURNS, ROUNDS = 24, 5, 12, 4, 60, 350
 # Of so many states one is served, and looked at by lines; of those where the file need not be a store yet, more.
 SERVED_EACH, EARLY_EACH = 400, 40
 
@@ -67,7 +67,7 @@ def over_http(keeping: Keeping, seed: int, tally: Tally) -> Iterator[tuple[Run, 
 
 
 def waits(keeping: Keeping, _seed: int, tally: Tally) -> Iterator[tuple[Run, int]]:
-    yield with_waits(keeping, TURNS, tally), 0
+    yield with_waits(keeping, TURNS, MOST_TURNS, tally), 0
 
 
 def new_file(keeping: Keeping, _seed: int, tally: Tally) -> Iterator[tuple[Run, int]]:

@@ -16,7 +16,7 @@ from typing import Iterator
 from batches import shelves
 from history import fault_of_history
 from log_file import Standing
-from server import Server, Serving, free_port, talk, talk_in_turn
+from server import Server, Serving, connected, free_port, talk, talk_in_turn
 from store import LEAST, MOST, Store, compact
 from web import Client
 
@@ -252,19 +252,17 @@ def a_page(keeping: Keeping, seed: int, lines: int, tally: Tally) -> Run:
 # ---- waits
 
 
-def with_waits(keeping: Keeping, turns: int, tally: Tally) -> Run:
-    """Batches that threads do, so that nodes are waited for, with new weights in between. How often each node was
-    waited for the server says itself."""
+def with_waits(keeping: Keeping, turns: int, most: int, tally: Tally) -> Run:
+    """Batches that threads do, so that nodes are waited for, with new weights in between; so many turns, and more if no
+    node was waited for in these. How often each node was waited for the server says itself."""
     batch, before = shelves(Random(68), count=210), keeping.left()
     document = {"nodes": batch["nodes"], "version": 1}
-    store, asked = Store(document), []
-    for turn in range(turns):
-        asked += [b'{"reweigh":null}' if turn % 3 == 2 else compact({"batch": batch["lists"]}), b'{"weights":null}']
+    lines = [compact({"batch": batch["lists"]}), compact({"batch": batch["lists"]}), b'{"reweigh":null}']
     with keeping.made_of(compact(document), env=keeping.surroundings(), workers=4) as server:
-        replies = talk_in_turn(server.port, [line + b"\n" for line in asked]).splitlines()
-    tally.blame("the replies", None if len(replies) == len(asked) else f"{len(replies)} to {len(asked)} lines")
+        came = until_waited(server.port, lines, turns, most)
+    store = Store(document)
     standings = [standing_of(store)]
-    for line, reply, looked in zip(asked[::2], map(json.loads, replies[::2]), map(json.loads, replies[1::2])):
+    for line, reply, looked in came:
         if "round" in reply:
             store.rounds = reply["round"]
             lists = json.loads(line)["batch"]
@@ -274,8 +272,21 @@ def with_waits(keeping: Keeping, turns: int, tally: Tally) -> Run:
         store.tree.weights = looked["weights"]
         standings += 2 * [standing_of(store, tuple(looked["waits"]))]
     waited = max(sum(standing.waits) for standing in standings)
-    tally.blame("waits", None if waited else "nothing was waited for")
+    tally.blame("waits", None if waited else f"nothing was waited for in {len(came)} turns")
     return keeping.run(before, BY_LINES, standings)
+
+
+def until_waited(port: int, lines: list[bytes], turns: int, most: int) -> list[tuple[bytes, dict, dict]]:
+    """The line of each turn, its reply, and what weights and waits there were then."""
+    came: list[tuple[bytes, dict, dict]] = []
+    with connected(port) as connection, connection.makefile("rb") as replies:
+        while len(came) < turns or len(came) < most and not any(any(looked["waits"]) for _, _, looked in came):
+            line = lines[len(came) % len(lines)]
+            connection.sendall(line + b"\n")
+            reply = json.loads(replies.readline())
+            connection.sendall(b'{"weights":null}\n')
+            came.append((line, reply, json.loads(replies.readline())))
+    return came
 
 
 # ---- a new file

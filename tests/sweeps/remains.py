@@ -24,8 +24,10 @@ from sweeps.program import Tally, Try, until_well
 from sweeps.ten_lines import ADD, WEIGHTS
 
 TRIED = "clients that have gone"
-# How many of each kind come before the bytes are counted for the first time, and how many times as many then come.
-FIRST, TIMES = 200, 9
+# How many of each kind come before the bytes are counted for the first time, and how many times as many then come. So
+# more than 16 lines come first with none of others beside them: from then on who leads reads them, and the store keeps
+# what it reads them with.
+FIRST, TIMES = 320, 5
 # How many looks wait for a round in all.
 WAITS = 10_000
 # So many bytes more are no growth, where threads come and go, and where none do: a number of each would be more.
