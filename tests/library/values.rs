@@ -135,7 +135,7 @@ fn tree_of(values: &Values<'_>, more: usize) -> Option<Tree> {
 fn plan_said(tree: &Tree, values: &Values<'_>) -> Result<String, Error> {
     let plan = tree.plan(&values.list)?;
     assert_eq!(tree.plan(&values.list)?, plan, "it was kept");
-    let (steps, rows) = (joined(plan.steps(), write_step), joined(plan.flow(), write_row));
+    let (steps, rows) = (joined(plan.steps(), write_step), joined(plan.flow()?, write_row));
     Ok(format!("cost {}\nplan {steps}\nflow {rows}\n", plan.cost()))
 }
 

@@ -23,7 +23,7 @@ impl<'a> Claim<'a> {
         list: &[Target],
         plan: &'a Plan,
     ) -> Result<Claim<'a>, Error> {
-        let (steps, rows) = (plan.numbered_steps(), plan.numbered_rows());
+        let (steps, rows) = (plan.numbered_steps(), plan.numbered_rows()?);
         let (steps, rows) = if Arc::ptr_eq(plan.paths(), &nodes.paths) {
             (Cow::Borrowed(steps), Cow::Borrowed(rows))
         } else {

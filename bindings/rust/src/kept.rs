@@ -18,13 +18,7 @@ const MOST_PLANS: usize = 4_096;
 pub(crate) struct Kept {
     whole: Mutex<Whole>,
     /// By a hash of the paths and the lengths of their lists.
-    plans: Mutex<Bounded<u64, KeptPlan, BuildHasherDefault<Known>>>,
-}
-
-/// A plan with its list.
-struct KeptPlan {
-    list: Box<[Target]>,
-    plan: Plan,
+    plans: Mutex<Bounded<u64, Plan, BuildHasherDefault<Known>>>,
 }
 
 /// A hash that is taken of eight bytes at a time. Whoever wants two lists of one hash finds them, so what is
@@ -95,19 +89,19 @@ impl Kept {
     #[inline]
     pub(crate) fn plan(&self, key: u64, list: &[Access], nodes: &Nodes) -> Option<Plan> {
         let plans = unpoisoned(self.plans.lock());
-        let kept = plans.get(&key)?;
+        let plan = plans.get(&key)?;
+        let kept = plan.list()?;
         let is_it = |(access, target): (&Access, &Target)| {
             access.length == target.length.into() && access.path == nodes.path(target.node)
         };
-        let is_same = list.len() == kept.list.len() && list.iter().zip(&kept.list).all(is_it);
-        is_same.then(|| kept.plan.clone())
+        let is_same = list.len() == kept.len() && list.iter().zip(kept).all(is_it);
+        is_same.then(|| plan.clone())
     }
 
-    /// Keeps a plan, in the place of another one if two lists have the same key.
-    pub(crate) fn keep(&self, key: u64, list: &[Target], plan: &Plan) {
-        let (list, plan) = (list.into(), plan.clone());
-        let steps = plan.numbered_steps().len();
-        unpoisoned(self.plans.lock()).keep(key, KeptPlan { list, plan }, steps);
+    /// Keeps a plan that was made, in the place of another one if two lists have the same key.
+    pub(crate) fn keep(&self, key: u64, plan: &Plan) {
+        let (plan, steps) = (plan.clone(), plan.numbered_steps().len());
+        unpoisoned(self.plans.lock()).keep(key, plan, steps);
     }
 
     /// What a call says of the whole tree, if the library has it so. Of several threads each waits for the one before.

@@ -46,6 +46,7 @@ pub mod document;
 mod drawing;
 mod error;
 mod fault;
+mod flow;
 mod json;
 mod kept;
 mod latch;

@@ -373,9 +373,9 @@ impl KeptTree {
         }
     }
 
-    /// The settled plan of a list over it, with its flow.
+    /// The settled plan of a list over it, without its flow.
     pub(crate) fn plan(&mut self, list: Accesses<'_>) -> Result<Planned, Error> {
-        let mut room = Room::of(self.nodes, list, true)?;
+        let mut room = Room::of(self.nodes, list, false)?;
         let mut planned = RawPlanned::default();
         // SAFETY: as for a part; and the handle is what the last call left, borrowed for this one alone.
         let status = unsafe {

@@ -1,6 +1,9 @@
 use crate::access::Reply;
-use crate::numbers::{NumberedRow, NumberedStep, Planned};
+use crate::error::Error;
+use crate::flow::{Flow, Settled};
+use crate::numbers::{NumberedRow, NumberedStep};
 use crate::paths::Paths;
+use crate::target::Target;
 use std::collections::HashMap;
 use std::fmt;
 use std::sync::Arc;
@@ -34,15 +37,15 @@ pub struct FlowRow<'p> {
     pub own: u64,
 }
 
-/// A plan of a list, what it costs, and the flow that proves that no legal plan costs less. A clone is the same plan:
-/// it takes no more than a count.
+/// A plan of a list, what it costs, and the flow that proves that no legal plan costs less, which is made when it is
+/// first read. A clone is the same plan: it takes no more than a count.
 #[derive(Clone)]
 pub struct Plan(Arc<Inner>);
 
 struct Inner {
     cost: u64,
     steps: Box<[NumberedStep]>,
-    rows: Box<[NumberedRow]>,
+    flow: Flow,
     paths: Arc<Paths>,
 }
 
@@ -56,17 +59,21 @@ impl Plan {
         let mut named = Named::default();
         let steps = steps.into_iter().map(|it| named.step(it)).collect();
         let rows = flow.into_iter().map(|it| named.row(it)).collect();
-        let paths = Arc::new(named.paths);
-        Plan::of(Planned { cost, steps, rows }, paths)
+        Plan(Arc::new(Inner {
+            cost,
+            steps,
+            flow: Flow::Given(rows),
+            paths: Arc::new(named.paths),
+        }))
     }
 
-    /// A plan by the numbers that nodes have in these paths.
-    pub(crate) fn of(planned: Planned, paths: Arc<Paths>) -> Plan {
+    /// The settled plan of a list, with its cost and its steps.
+    pub(crate) fn settled(cost: u64, steps: Vec<NumberedStep>, list: Settled) -> Plan {
         Plan(Arc::new(Inner {
-            cost: planned.cost,
-            steps: planned.steps.into(),
-            rows: planned.rows.into(),
-            paths,
+            cost,
+            steps: steps.into(),
+            paths: Arc::clone(list.paths()),
+            flow: Flow::of(list),
         }))
     }
 
@@ -86,23 +93,32 @@ impl Plan {
     }
 
     /// What proves that no legal plan costs less: a row for each node that every legal plan locks, in the tree's order.
-    pub fn flow(&self) -> impl ExactSizeIterator<Item = FlowRow<'_>> + Clone {
-        self.0.rows.iter().map(|row| FlowRow {
+    ///
+    /// # Errors
+    ///
+    /// [`Error::NoMemory`], of a plan that a tree has made.
+    pub fn flow(&self) -> Result<impl ExactSizeIterator<Item = FlowRow<'_>> + Clone, Error> {
+        Ok(self.numbered_rows()?.iter().map(|row| FlowRow {
             node: self.0.paths.path(row.node),
             above: row.above,
             held: row.held,
             first: row.first,
             last: row.last,
             own: row.own,
-        })
+        }))
     }
 
     pub(crate) fn numbered_steps(&self) -> &[NumberedStep] {
         &self.0.steps
     }
 
-    pub(crate) fn numbered_rows(&self) -> &[NumberedRow] {
-        &self.0.rows
+    pub(crate) fn numbered_rows(&self) -> Result<&[NumberedRow], Error> {
+        self.0.flow.rows()
+    }
+
+    /// The list of which a tree has made it.
+    pub(crate) fn list(&self) -> Option<&[Target]> {
+        self.0.flow.list()
     }
 
     pub(crate) fn paths(&self) -> &Arc<Paths> {
@@ -111,10 +127,13 @@ impl Plan {
 }
 
 impl PartialEq for Plan {
+    /// Nothing equals a plan whose flow can't be made for want of memory, but for its clones.
     fn eq(&self, other: &Plan) -> bool {
-        self.cost() == other.cost()
-            && self.steps().eq(other.steps())
-            && self.flow().eq(other.flow())
+        let same = |(own, others)| Iterator::eq(own, others);
+        Arc::ptr_eq(&self.0, &other.0)
+            || self.cost() == other.cost()
+                && self.steps().eq(other.steps())
+                && self.flow().ok().zip(other.flow().ok()).is_some_and(same)
     }
 }
 
@@ -125,7 +144,7 @@ impl fmt::Debug for Plan {
         out.debug_struct("Plan")
             .field("cost", &self.cost())
             .field("steps", &self.steps().collect::<Vec<_>>())
-            .field("flow", &self.flow().collect::<Vec<_>>())
+            .field("flow", &self.flow().map(Iterator::collect::<Vec<_>>))
             .finish()
     }
 }

@@ -63,7 +63,7 @@ pub trait Requests {
     ///
     /// As above.
     fn check(&self, list: &[Access], plan: &Plan) -> Result<u64, Error> {
-        ask(self, "check", &claim(list, plan), |reply| {
+        ask(self, "check", &claim(list, plan)?, |reply| {
             reply.member("cost")?.number()
         })
     }

@@ -2,14 +2,15 @@ use crate::access::Access;
 use crate::claim::Claim;
 use crate::drawing::{Form, drawn};
 use crate::error::Error;
+use crate::flow::Settled;
 use crate::kept::{Kept, Whole};
-use crate::library::{KeptTree, plan_part};
+use crate::library::KeptTree;
 use crate::nodes::Nodes;
-use crate::numbers::{Arrays, Planned};
-use crate::part::{MOST_NODES, Part};
+use crate::numbers::Arrays;
+use crate::part::MOST_NODES;
 use crate::paths::names_of;
 use crate::plan::{Judgement, Plan, Step};
-use crate::target::{Target, Targets};
+use crate::target::Targets;
 use crate::weighing::{reweighed, weights_of};
 use crate::writing::{question, written_tree};
 use std::fmt;
@@ -24,7 +25,7 @@ use std::sync::Arc;
 #[derive(Clone)]
 pub struct Tree {
     nodes: Arc<Nodes>,
-    weights: Vec<u32>,
+    weights: Arc<[u32]>,
     records: Vec<i64>,
     kept: Kept,
 }
@@ -42,7 +43,7 @@ impl Tree {
         let given: Vec<(&str, u32)> = weights.into_iter().collect();
         let nodes = Nodes::new(given.iter().map(|(path, _)| *path))?;
         Ok(Tree {
-            weights: weights_of(&nodes, &given)?,
+            weights: weights_of(&nodes, &given)?.into(),
             records: vec![0; nodes.len()],
             nodes: Arc::new(nodes),
             kept: Kept::default(),
@@ -93,7 +94,7 @@ impl Tree {
     pub fn reweigh(&mut self, waits: &[u32]) -> Result<usize, Error> {
         let waits = waits.iter().copied().chain(std::iter::repeat(0));
         let (weights, changed) = reweighed(&self.weights, waits)?;
-        self.weights = weights;
+        self.weights = weights.into();
         self.kept = Kept::default();
         Ok(changed)
     }
@@ -109,9 +110,12 @@ impl Tree {
         if let Some(plan) = self.kept.plan(key, list, &self.nodes) {
             return Ok(plan);
         }
-        let targets = Targets::of_accesses(&self.nodes, list)?;
-        let plan = Plan::of(self.planned(&targets)?, Arc::clone(&self.nodes.paths));
-        self.kept.keep(key, &targets, &plan);
+        let plan = self.made(Settled {
+            list: Targets::of_accesses(&self.nodes, list)?[..].into(),
+            nodes: Arc::clone(&self.nodes),
+            weights: Arc::clone(&self.weights),
+        })?;
+        self.kept.keep(key, &plan);
         Ok(plan)
     }
 
@@ -177,19 +181,13 @@ impl Tree {
         written_tree(&self.nodes, &self.weights, &self.records, rest)
     }
 
-    fn planned(&self, list: &[Target]) -> Result<Planned, Error> {
-        let arrays = Arrays::of(list);
+    fn made(&self, list: Settled) -> Result<Plan, Error> {
+        let arrays = Arrays::of(&list.list);
         let asked = self
             .kept
             .ask(|| self.whole(), |tree| tree.plan(arrays.accesses()))?;
-        match asked {
-            Some(planned) => planned,
-            None => {
-                let part = Part::of(&self.nodes, arrays.accesses().nodes.to_vec())?;
-                let rows = part.rows(&self.weights, |_, number| number);
-                plan_part(&rows, arrays.numbered(|it| part.place(it)).accesses(), true)
-            }
-        }
+        let planned = asked.unwrap_or_else(|| list.planned(false))?;
+        Ok(Plan::settled(planned.cost, planned.steps, list))
     }
 
     /// What is said of a claim.

@@ -1,6 +1,7 @@
 //! Documents of trees, lists, plans and flows (docs/FORMATS.md).
 
 use crate::access::{Access, Op};
+use crate::error::Error;
 use crate::json::quoted;
 use crate::nodes::Nodes;
 use crate::plan::{FlowRow, Plan, Step};
@@ -45,13 +46,13 @@ pub(crate) fn written_list(list: &[Access]) -> String {
 }
 
 /// The document without a tree of a list and a plan with its flow.
-pub(crate) fn claim(list: &[Access], plan: &Plan) -> String {
+pub(crate) fn claim(list: &[Access], plan: &Plan) -> Result<String, Error> {
     let mut text = question(list, Some(plan.steps()));
     text.pop();
     text.push_str(",\"flow\":[");
-    join(&mut text, plan.flow(), write_row);
+    join(&mut text, plan.flow()?, write_row);
     text.push_str("]}");
-    text
+    Ok(text)
 }
 
 /// The document without a tree of a list, and of steps if there are any.

@@ -116,7 +116,7 @@ fn requests_and_replies() {
         own: 0,
     };
     assert_eq!(plan.cost(), 1);
-    assert!(plan.flow().eq([row]));
+    assert!(plan.flow().unwrap().eq([row]));
     assert_eq!(client.check(&list, &plan), Ok(1));
     let told = client.weights().unwrap();
     assert_eq!((told.weights, told.waits), (vec![5, 1], vec![0, 2]));

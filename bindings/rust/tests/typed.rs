@@ -22,7 +22,7 @@ fn plans_are_least_and_legal() {
     let plan = stock().plan(&list).unwrap();
     assert_eq!(plan.cost(), 3);
     assert_eq!(plan.steps().next(), Some(Step::Lock("/")));
-    assert_eq!((plan.steps().len(), plan.flow().len()), (8, 3));
+    assert_eq!((plan.steps().len(), plan.flow().unwrap().len()), (8, 3));
     assert_eq!(stock().check(&list, &plan).unwrap(), 3);
     let judged = stock().judge(&list, plan.steps()).unwrap();
     assert_eq!(judged.cost, 3);
@@ -78,11 +78,24 @@ fn a_record_has_64_bits() {
 fn a_changed_certificate_proves_nothing() {
     let list = [Access::get("/a"), Access::get("/b")];
     let plan = stock().plan(&list).unwrap();
-    let mut rows: Vec<FlowRow> = plan.flow().collect();
+    let mut rows: Vec<FlowRow> = plan.flow().unwrap().collect();
     rows[1].last += 1;
     let changed = Plan::new(plan.cost(), plan.steps(), rows);
     let fault = name_of(stock().check(&list, &changed).unwrap_err());
     assert!(fault.ends_with("-balance"), "{fault}");
+}
+
+#[test]
+fn a_flow_is_of_the_tree_as_it_stood() {
+    let (mut tree, before) = (stock(), stock());
+    let list = [Access::get("/a"), Access::get("/b")];
+    let plan = tree.plan(&list).unwrap();
+    assert_eq!(tree.reweigh(&[9, 9, 9]), Ok(3));
+    assert_ne!(tree.plan(&list).unwrap().cost(), plan.cost());
+    drop(tree);
+    let read = Plan::new(0, plan.steps(), plan.flow().unwrap());
+    assert_eq!(before.check(&list, &read), Ok(plan.cost()));
+    assert_eq!(before.plan(&list).unwrap(), plan);
 }
 
 #[test]
@@ -206,7 +219,7 @@ fn trees_of_any_size_have_the_same_plans() {
         assert!(plan.steps().eq(other.steps()), "{list:?}");
         assert_eq!(plan.cost(), other.cost());
         // Siblings stand in another order in the two trees, and so do rows.
-        assert_eq!(plan.flow().len(), other.flow().len());
+        assert_eq!(plan.flow().unwrap().len(), other.flow().unwrap().len());
         for (tree, plan) in [(&large, &other), (&small, &plan)] {
             assert_eq!(tree.check(&list, plan), Ok(plan.cost()));
             let judged = tree.judge(&list, plan.steps()).unwrap();
@@ -227,11 +240,15 @@ fn a_plan_of_somebody_else_is_checked() {
     let list = [Access::get("/g0/h0/leaf0"), Access::get("/g1/h1/leaf1")];
     for tree in [&large, &small] {
         let plan = tree.plan(&list).unwrap();
-        let made = Plan::new(0, plan.steps(), plan.flow());
+        let made = Plan::new(0, plan.steps(), plan.flow().unwrap());
         assert_eq!(tree.check(&list, &made), Ok(plan.cost()));
         // A node above all is locked and let go: that costs nothing, but is no reason to refuse it.
         let above = [Step::Lock("/g8"), Step::Unlock("/g8")];
-        let longer = Plan::new(0, plan.steps().chain([Step::Lock("/none")]), plan.flow());
+        let longer = Plan::new(
+            0,
+            plan.steps().chain([Step::Lock("/none")]),
+            plan.flow().unwrap(),
+        );
         let refused = tree.check(&list, &longer).unwrap_err();
         let at = plan.steps().len();
         assert_eq!(refused.to_string(), format!("refused no-path plan {at}"));
@@ -241,7 +258,7 @@ fn a_plan_of_somebody_else_is_checked() {
             _ => format!("refused no-path plan {at}"),
         };
         assert_eq!(late.to_string(), wanted);
-        let mut rows: Vec<FlowRow> = plan.flow().collect();
+        let mut rows: Vec<FlowRow> = plan.flow().unwrap().collect();
         rows[1].node = "/none";
         let refused = tree
             .check(&list, &Plan::new(0, plan.steps(), rows))
