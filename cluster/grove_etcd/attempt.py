@@ -249,7 +249,9 @@ class Attempt:
 
     def at(self, step: int, found: Seen | None) -> Seen | None:
         """The job, if it was seen with what its next steps need; else read again, as if its node was handed to it."""
-        return found if found is None or found.progress.step == step else self.look(found.progress.step)
+        if found is None or found.progress.step == step:
+            return found
+        return self.look(found.progress.step, found.found.revision)
 
     # Groups
 
@@ -472,8 +474,9 @@ class Attempt:
     def failure_of(self, found: Seen, access: Access, record: int, token: str) -> BaseException | None:
         """Does the work; meanwhile the group that follows is made ready."""
         with self.means.makes_ready() as makes:
-            makes.begin(lambda: self.made_ready(found, self.group(found)))
+            # (The signs come first: where they call the system, the other thread would go on, and the work wait for it.)
             self.means.signs.begin()
+            makes.begin(lambda: self.made_ready(found, self.group(found)))
             try:
                 self.perform(access, record, token)
             except BaseException as why:  # whatever the work raises, SystemExit among them, means that it has failed

@@ -6,7 +6,7 @@ import time
 from dataclasses import dataclass, field, replace
 from enum import Enum
 from functools import cached_property
-from typing import Any, Optional, Union
+from typing import Any, NamedTuple, Optional, Union
 
 from .values import Value, written
 
@@ -21,8 +21,11 @@ class Kind(Enum):
     ACCESS = "access"
 
 
-@dataclass(frozen=True)
-class Step:
+# By their names in plans.
+KINDS = {kind.value: kind for kind in Kind}
+
+
+class Step(NamedTuple):
     """A step of a plan, with its node; for an access, the accessed node."""
 
     kind: Kind
@@ -72,7 +75,7 @@ class Job:
     def step(self, kind: str, what: Any) -> Step:
         if kind == "access":
             return Step(Kind.ACCESS, path_of_access(self.accesses[what]), what)
-        return Step(Kind(kind), what)
+        return Step(KINDS[kind], what)
 
     def begins_at(self) -> str:
         """The node of its first lock, by which workers share out jobs."""

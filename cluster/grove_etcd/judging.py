@@ -12,7 +12,7 @@ from typing import Any, Container, Optional
 
 from .accesses import MOST_ACCESSES, is_access
 from .documents import MOST_DEPTH, NAME, is_whole
-from .jobs import Job, Kind, Step
+from .jobs import KINDS, Job, Kind, Step
 from .refusals import Refused
 from .tree import names_of, path_of, ways_down
 
@@ -21,7 +21,6 @@ MOST_BYTES, MOST_NODES = 1_000_000, 4096
 MOST_AGE = 10**17 - 1
 # Of a path, and of paths of which it is kept whether they have the form of one.
 MOST_LENGTH, MOST_KEPT = 33 * MOST_DEPTH, 16384
-KINDS = {kind.value for kind in Kind}
 
 
 def read_job(name: str, text: str, put_at: int = 0) -> Job:

@@ -26,6 +26,15 @@ class Fresh(NamedTuple):
     node: str
 
 
+def fresh_in(found: dict[str, Entry]) -> dict[str, Fresh]:
+    """The oldest first; without keys that are too long."""
+    return {
+        last_part(key): Fresh(key, entry.put_at, entry.value)
+        for key, entry in sorted(found.items())
+        if len(key) <= MOST_KEY
+    }
+
+
 class Reader:
     def __init__(self, members: Members, keys: Keys, journal: Journal) -> None:
         self.members, self.keys, self.journal = members, keys, journal
@@ -34,16 +43,16 @@ class Reader:
         # Nodes stay for good.
         self.nodes: set[str] = set()
 
-    def note(self, found: dict[str, Entry], are_more: bool = False) -> list[str]:
-        """The names of the jobs of which these keys say that nobody has begun them, the oldest first; or more of those
-        that were noted last. A key that is too long for one is deleted."""
-        known = sorted(key for key in found if len(key) <= MOST_KEY)
-        for key in found.keys() - set(known):
-            self.journal.log("stray", key=f"{key[:MOST_SAID]}..")
-            self.members.write([deleting(key)])
-        fresh = {last_part(key): Fresh(key, found[key].put_at, found[key].value) for key in known}
+    def note(self, found: dict[str, Entry], are_more: bool = False) -> dict[str, Fresh]:
+        """By name the jobs of which these keys say that nobody has begun them, the oldest first; or more of those that
+        were noted last. A key that is too long for one is deleted."""
+        fresh = fresh_in(found)
+        if len(fresh) < len(found):
+            for key in found.keys() - {each.key for each in fresh.values()}:
+                self.journal.log("stray", key=f"{key[:MOST_SAID]}..")
+                self.members.write([deleting(key)])
         self.fresh = {**self.fresh, **fresh} if are_more else fresh
-        return list(fresh)
+        return fresh
 
     def oldest(self) -> float:
         """When the first of these jobs was submitted, in seconds; 0 if there is none, or its key doesn't say that."""

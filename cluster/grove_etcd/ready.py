@@ -62,12 +62,9 @@ class MakesReady:
     def __init__(self) -> None:
         self.begun: SimpleQueue[Callable[[], Ready]] = SimpleQueue()
         self.ended: SimpleQueue[Ready | None] = SimpleQueue()
-        self.thread: threading.Thread | None = None
+        threading.Thread(target=self.run, daemon=True).start()
 
     def begin(self, make_ready: Callable[[], Ready]) -> None:
-        if self.thread is None:
-            self.thread = threading.Thread(target=self.run, daemon=True)
-            self.thread.start()
         self.begun.put(make_ready)
 
     def end(self) -> Ready | None:

@@ -5,7 +5,9 @@ changes are read at the same member once the watch is there.
 """
 from __future__ import annotations
 
+import threading
 from dataclasses import dataclass
+from queue import SimpleQueue
 from typing import Any, Callable, Generator, Optional
 
 from .connecting import errors
@@ -56,6 +58,38 @@ def changes(
         answers.cancel()
 
 
+class Ends:
+    """Ends watches that have told what was waited for, in a thread, while whoever has waited goes on."""
+
+    def __init__(self) -> None:
+        self.told: SimpleQueue[Generator[Change, None, None]] = SimpleQueue()
+        self.thread: threading.Thread | None = None
+        self.lock = threading.Lock()
+
+    def end(self, came: Generator[Change, None, None]) -> None:
+        """If the system gives no thread, at once."""
+        try:
+            self.need_thread()
+        except RuntimeError:
+            came.close()
+        else:
+            self.told.put(came)
+
+    def need_thread(self) -> None:
+        with self.lock:
+            if self.thread is None:
+                thread = threading.Thread(target=self.run, daemon=True)
+                thread.start()
+                self.thread = thread
+
+    def run(self) -> None:
+        while True:
+            self.told.get().close()
+
+
+ENDS = Ends()
+
+
 def wait(
     members: Members,
     watched: Watched,
@@ -67,6 +101,11 @@ def wait(
     """The first change after the revision for which `is_it` holds, if there is one within so many seconds."""
     came = changes(members, watched, revision, seconds, watches)
     try:
-        return next((each for each in came if is_it(each)), None)
-    finally:
+        found = next((each for each in came if is_it(each)), None)
+    except BaseException:
         came.close()
+        raise
+    # (One that has told nothing has ended by itself.)
+    if found is not None:
+        ENDS.end(came)
+    return found

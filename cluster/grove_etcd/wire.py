@@ -31,7 +31,7 @@ SMALL = [bytes([number]) for number in range(128)]
 
 def text_of(content: bytes) -> str:
     """What isn't UTF-8, as whoever may put a key can put it, is kept by a character for each byte."""
-    return content.decode(errors="surrogateescape")
+    return content.decode("utf-8", "surrogateescape")
 
 
 def bytes_of(text: str) -> bytes:
@@ -82,7 +82,9 @@ class Found:
 
     @cached_property
     def entries(self) -> dict[str, Entry]:
-        return {**dict(map(entry_of, reversed(list(pairs_from_last(self.responses))))), **self.known}
+        found = dict(map(entry_of, reversed(list(pairs_from_last(self.responses)))))
+        found.update(self.known)
+        return found
 
     def add(self, pairs: Iterable[Any]) -> None:
         self.entries.update(map(entry_of, pairs))

@@ -21,10 +21,10 @@ from .failures import why_of
 from .head import need_store
 from .jobs import Job, UnderWay
 from .journal import Journal
-from .keys import MOST_KEY, Keys, last_part
+from .keys import Keys, last_part
 from .leash import Leash
 from .members import Lost, Members, pauses
-from .reading import Reader
+from .reading import Fresh, Reader, fresh_in
 from .refusals import Failed
 from .seeing import Seen
 from .shares import LEFT_SECONDS, Shares
@@ -184,7 +184,7 @@ class Worker:
             fresh, begun = self.fresh_of(found), self.under_way_of(found)
             if until_ended and not fresh and not begun:
                 return
-            if self.start(partial(self.task, found, begun)):
+            if self.start(partial(self.task, found, fresh, begun)):
                 continue
             if not fresh or self.turns.waits:
                 self.idle(found, ended)
@@ -206,7 +206,7 @@ class Worker:
             self.start_thread(task)
         return task is not None
 
-    def task(self, found: Found, begun: dict[str, UnderWay]) -> Optional[Task]:
+    def task(self, found: Found, fresh: dict[str, Fresh], begun: dict[str, UnderWay]) -> Optional[Task]:
         """What there is to do: a job with which nobody goes on, those that another thread has left, or others that
         nobody has begun."""
         left = self.abandoned(begun, found)
@@ -216,7 +216,7 @@ class Worker:
         rest = self.rest()
         if rest is not None:
             return rest
-        some = self.some_of(found) or self.some_beyond(found)
+        some = self.some_of(fresh, self.workers(found)) or self.some_beyond(found)
         if some:
             return self.chosen_for(some, lambda names: self.run_some(in_order(some, names), names))
         return None
@@ -297,11 +297,11 @@ class Worker:
         fresh, begun, signs = (self.keys.whole(kind) for kind in "qus")
         return self.members.read([reading_below(fresh, self.most), reading_below(begun), reading_below(signs)])
 
-    def fresh_of(self, found: Found) -> list[str]:
-        """The names of jobs that nobody has begun, the oldest first."""
-        names = self.reader.note(found.below(self.keys.whole("q")))
-        self.fresh, self.oldest = len(names), self.reader.oldest()
-        return names
+    def fresh_of(self, found: Found) -> dict[str, Fresh]:
+        """By name the jobs that nobody has begun, the oldest first."""
+        fresh = self.reader.note(found.below(self.keys.whole("q")))
+        self.fresh, self.oldest = len(fresh), self.reader.oldest()
+        return fresh
 
     def under_way_of(self, found: Found) -> dict[str, UnderWay]:
         """Those that aren't set aside."""
@@ -309,19 +309,16 @@ class Worker:
         each = ((last_part(key), self.reader.under_way(key, entry)) for key, entry in begun.items())
         return {name: under_way for name, under_way in each if under_way is not None}
 
-    def some_of(self, found: Found, among: Optional[set[str]] = None) -> list[str]:
-        """Some of the jobs that nobody has begun; no more than leaves as many for each thread of these workers, or else
-        of those that were found."""
-        keys = found.below(self.keys.whole("q"))
-        nodes = {last_part(key): keys[key].value for key in sorted(keys) if len(key) <= MOST_KEY}
-        avoided = self.turns.avoided()
-        fresh = {name: node for name, node in nodes.items() if name not in self.chosen and node not in avoided}
-        workers = self.workers(found) if among is None else among
+    def some_of(self, fresh: dict[str, Fresh], workers: set[str]) -> list[str]:
+        """Some of these jobs, which nobody has begun; no more than leaves as many for each thread of these workers."""
+        avoided, chosen = self.turns.avoided(), self.chosen
+        both = ((name, each.node) for name, each in fresh.items())
+        nodes = {name: node for name, node in both if name not in chosen and node not in avoided}
         if self.means.work is None:
-            return self.shares.choose(fresh, workers, min(MOST_CHOSEN, max(1, len(fresh) // self.count)))
+            return self.shares.choose(nodes, workers, min(MOST_CHOSEN, max(1, len(nodes) // self.count)))
         # As many are left for each thread of each worker.
-        each = len(fresh) // (self.count * len(workers))
-        return self.shares.choose(fresh, workers, min(MOST_BEGUN, max(LEAST_BEGUN, each)))
+        share = len(nodes) // (self.count * len(workers))
+        return self.shares.choose(nodes, workers, min(MOST_BEGUN, max(LEAST_BEGUN, share)))
 
     def some_beyond(self, found: Found) -> list[str]:
         """Some of those that come after the jobs that were looked at, if these are as many as are looked at. It goes on
@@ -331,8 +328,7 @@ class Worker:
             start = max(self.beyond, max(seen)) + "\0"
             more = self.members.read([reading_from(start, after(self.keys.whole("q")), self.most)])
             self.beyond = max(more.entries, default="")
-            self.reader.note(more.entries, are_more=True)
-            some = self.some_of(more, self.workers(found))
+            some = self.some_of(self.reader.note(more.entries, are_more=True), self.workers(found))
             if some or not more.entries:
                 return some
         return []
@@ -443,7 +439,8 @@ class Worker:
     def more_jobs(self, known: set[str]) -> list[Job]:
         """Some jobs that nobody has begun, without those that are known."""
         found = self.members.read([reading_below(self.keys.whole("q"), MOST_LOOKED_AT)])
-        return self.jobs([name for name in self.some_of(found) if name not in known])
+        some = self.some_of(fresh_in(found.entries), {self.means.name})
+        return self.jobs([name for name in some if name not in known])
 
     def attempts(self, jobs: list[Job]) -> list[Attempt]:
         """Attempts at these jobs, each of which knows the one that follows."""

@@ -130,7 +130,7 @@ def a_full_epoch_is_followed_by_the_next(cluster, grove):
     store.worker().run_batch([], set())
     left = store.worker()
     while fresh := left.fresh_of(left.look()):
-        left.run_batch(left.jobs(fresh[:24]), set())
+        left.run_batch(left.jobs(list(fresh)[:24]), set())
     audits = [store.audit() for _ in range(2)]
     none = refusal(store.audit)
     goes_on.run(found)
