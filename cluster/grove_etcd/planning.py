@@ -1,7 +1,8 @@
 """Settled plans, over the nodes on the ways down to the accessed ones alone.
 
 A plan depends on the tree with its weights, and on the nodes and lengths of the accesses, but on no name. So a plan is
-kept with numbers in place of names, and serves each list whose ways have the same form.
+kept with numbers in place of names, and serves each list whose ways have the same form. Whether it is legal depends on
+no more, so it is judged once.
 """
 from __future__ import annotations
 
@@ -9,9 +10,10 @@ import json
 from typing import Any, Hashable, Mapping, Optional
 
 from .accesses import MOST_ACCESSES, is_access
-from .jobs import slots_of
+from .jobs import Job, slots_of
+from .judging import need_legal
 from .planners import planner_of
-from .tree import Row, rows_of, way_down, ways_down
+from .tree import rows_of, way_down, ways_down
 from .values import written
 
 MOST_KEPT = 1024
@@ -26,39 +28,43 @@ class Planner:
 
     def plan(self, accesses: list[Any], weights: Mapping[str, int]) -> list[list[Any]]:
         """The plan, or the refusal of the `grove` program. Weights are those of the nodes on the ways."""
-        ways = ways_of(accesses)
+        ways = ways_down(named(accesses))
         paths = [path for path in ways if all(above in weights for above in way_down(path))]
-        rows = rows_of(paths, weights, {})
-        form = form_of(rows, paths, accesses)
+        number_of = {path: number for number, path in enumerate(paths)}
+        form = form_of(number_of, weights, accesses)
         if form is None:
-            return self.ask(rows, accesses)
+            return self.ask(paths, weights, accesses)
         if form not in self.kept:
             if len(self.kept) == MOST_KEPT:
                 self.kept.clear()
-            number_of = {path: number for number, path in enumerate(paths)}
-            plan = self.ask(rows, accesses)
+            plan = self.ask(paths, weights, accesses)
             self.kept[form] = [[kind, what if kind == "access" else number_of[what]] for kind, what in plan]
         return [[kind, what if kind == "access" else paths[what]] for kind, what in self.kept[form]]
 
-    def ask(self, rows: list[Row], accesses: list[Any]) -> list[list[Any]]:
+    def ask(self, paths: list[str], weights: Mapping[str, int], accesses: list[Any]) -> list[list[Any]]:
+        """A plan that is legal, whoever makes it."""
+        rows = rows_of(paths, weights, {})
         lines = self.by.plan(written({"version": 2, "nodes": rows, "list": accesses}))
         plan: list[list[Any]] = json.loads(lines["plan"])
+        need_legal(Job("", 0, accesses, plan), weights)
         return plan
 
 
-def ways_of(accesses: Any) -> list[str]:
-    """What hasn't the form of an access is left for the `grove` program to refuse."""
+def named(accesses: Any) -> list[str]:
+    """The root, and the paths of accesses. What hasn't the form of an access is left for the `grove` program to
+    refuse."""
     items = accesses if isinstance(accesses, list) else []
-    named = [access[1] for access in items if isinstance(access, list) and len(access) > 1]
-    return ways_down([path for path in named if isinstance(path, str) and path.startswith("/")] + ["/"])
+    paths = [access[1] for access in items if isinstance(access, list) and len(access) > 1]
+    return ["/", *(path for path in paths if isinstance(path, str) and path.startswith("/"))]
 
 
-def form_of(rows: list[Row], paths: list[str], accesses: list[Any]) -> Hashable | None:
-    """What the plan depends on; None if the list can't be planned, or possibly can't be."""
-    number_of = {path: number for number, path in enumerate(paths)}
+def form_of(number_of: Mapping[str, int], weights: Mapping[str, int], accesses: Any) -> Hashable | None:
+    """What the plan depends on, by the numbers of the nodes on the ways, in preorder; None if the list can't be
+    planned, or possibly can't be."""
     if not isinstance(accesses, list) or len(accesses) > MOST_ACCESSES:
         return None
     if not all(is_access(access) and access[1] in number_of for access in accesses):
         return None
-    tree = tuple((row["parent"], row["weight"]) for row in rows)
+    # (The root, which has no node above it, comes first.)
+    tree = tuple((number_of[way_down(path)[-2:][0]], weights[path]) for path in number_of)
     return tree, tuple((number_of[access[1]], slots_of(access)) for access in accesses)

@@ -47,10 +47,9 @@ class Reader:
         """By name the jobs of which these keys say that nobody has begun them, the oldest first; or more of those that
         were noted last. A key that is too long for one is deleted."""
         fresh = fresh_in(found)
-        if len(fresh) < len(found):
-            for key in found.keys() - {each.key for each in fresh.values()}:
-                self.journal.log("stray", key=f"{key[:MOST_SAID]}..")
-                self.members.write([deleting(key)])
+        for key in (key for key in found if len(key) > MOST_KEY):
+            self.journal.log("stray", key=f"{key[:MOST_SAID]}..")
+            self.members.write([deleting(key)])
         self.fresh = {**self.fresh, **fresh} if are_more else fresh
         return fresh
 

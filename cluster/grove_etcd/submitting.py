@@ -5,6 +5,7 @@ from __future__ import annotations
 import time
 import uuid
 from concurrent.futures import ThreadPoolExecutor
+from contextlib import suppress
 from typing import Any, Iterator, NamedTuple, Optional
 
 from .head import need_store
@@ -12,19 +13,20 @@ from .jobs import Access, Job, Progress
 from .judging import MOST_BYTES, need_legal, read_job
 from .keys import JOB_NAME, Keys
 from .members import GIVE_UP_SECONDS, MOST_OPERATIONS, Lost, Members, pauses
-from .planning import Planner, ways_of
+from .planning import Planner, named
 from .refusals import NoForm, Refused
 from .sharing import Commits, Part
+from .tree import way_down
 from .waiting import Watched, changes
 from .weighing import last_weighing
 from .weights import Weight
-from .wire import Found, absent, after, putting, reading
+from .wire import Found, absent, after, putting, reading, reading_below
 
 # Of parts of a transaction, of jobs in each, which are two puts, and of transactions that are on their way at once.
 MOST_PARTS, MOST_SENT = 16, 4
 MOST_JOBS = (MOST_OPERATIONS - MOST_PARTS) // 2
-# For how long weights are kept, and of how many nodes.
-KNOWN_SECONDS, MOST_KNOWN = 1.0, 100_000
+# For how long weights are kept, and of how many nodes; and of how many they are read at once.
+KNOWN_SECONDS, MOST_KNOWN, MOST_AT_ONCE = 1.0, 100_000, 512
 # The length of a watch for replies.
 WATCH_SECONDS = 5.0
 
@@ -66,7 +68,6 @@ class Submitter:
             jobs.append(written_of(Job(f"{name}.{number}", now + number, accesses, plan, by)))
             if len(jobs[-1].text) > MOST_BYTES:
                 raise Refused(f"job-too-large lists {number}")
-            need_legal(jobs[-1].job, weights)
         self.put_written(jobs)
         return [job.name for job, _ in jobs]
 
@@ -87,13 +88,22 @@ class Submitter:
     def weights(self, lists: list[Any]) -> dict[str, int]:
         """The weights of the nodes on the ways down to all that are accessed, as they were at most a moment ago."""
         if time.monotonic() - self.known_at > KNOWN_SECONDS or len(self.known) > MOST_KNOWN:
-            self.known, self.known_at = {}, time.monotonic()
-            self.reweighing = last_weighing(self.members, self.keys).number
-        paths = {path for accesses in lists for path in ways_of(accesses)}
+            self.know_anew()
+        paths = {above for accesses in lists for path in named(accesses) for above in way_down(path)}
         # One member's own are enough: nodes stay, and a plan by old weights is legal. What it hasn't all are asked for.
         self.learn(paths, since=1)
         self.learn(paths, since=0)
         return {path: self.known[path] for path in paths if path in self.known}
+
+    def know_anew(self) -> None:
+        """The weights of a small tree are read at once, and not with each call those that aren't known yet."""
+        self.known, self.known_at = {}, time.monotonic()
+        self.reweighing = last_weighing(self.members, self.keys).number
+        found = self.members.read_since([reading_below(self.keys.whole("m"), MOST_AT_ONCE)], 1)
+        for key, entry in found.entries.items():
+            # What isn't a weight is refused to those that need it.
+            with suppress(NoForm):
+                self.known[self.keys.parts(key)[1]] = Weight.read(entry.value).at(self.reweighing)
 
     def learn(self, paths: set[str], since: int) -> None:
         """Reads the weights of these that aren't known."""

@@ -79,6 +79,13 @@ class Others(unittest.TestCase):
         planner.plan([["get", "/b", 2]], weights)
         self.assertEqual(len(asked), 3)
 
+    def test_a_plan_that_is_not_legal_is_refused_each_time(self):
+        planner, weights = Planner("no program"), {"/": 5, "/a": 1}
+        planner.by = By("a test", lambda _: {"plan": '[["lock","/a"],["access",0]]'})
+        for _ in range(2):
+            with self.assertRaisesRegex(Refused, "node /a still-held"):
+                planner.plan([["add", "/a", 1]], weights)
+
 
 class Planners(unittest.TestCase):
     """Who plans, by what is named and what is there."""
