@@ -79,7 +79,8 @@ class Means:
     def makes_ready(self) -> Iterator[MakesReady]:
         makes = self.unused.pop() if self.unused else MakesReady()
         yield makes
-        self.unused.append(makes)
+        if makes.has_thread:
+            self.unused.append(makes)
 
     @contextmanager
     def waited(self, name: str, node: str = "") -> Iterator[None]:
@@ -474,7 +475,7 @@ class Attempt:
     def failure_of(self, found: Seen, access: Access, record: int, token: str) -> BaseException | None:
         """Does the work; meanwhile the group that follows is made ready."""
         with self.means.makes_ready() as makes:
-            # (The signs come first: where they call the system, the other thread would go on, and the work wait for it.)
+            # (The signs come first: while they call the system the other thread would go on, and work wait for it.)
             self.means.signs.begin()
             makes.begin(lambda: self.made_ready(found, self.group(found)))
             try:

@@ -57,19 +57,25 @@ class Ready:
 
 
 class MakesReady:
-    """Makes one transaction ready at a time. After each `begin` there has to be an `end`."""
+    """Makes one transaction ready at a time. After each `begin` there has to be an `end`. Without a thread, if the system
+    gives none, it makes nothing ready."""
 
     def __init__(self) -> None:
         self.begun: SimpleQueue[Callable[[], Ready]] = SimpleQueue()
         self.ended: SimpleQueue[Ready | None] = SimpleQueue()
-        threading.Thread(target=self.run, daemon=True).start()
+        self.has_thread = True
+        try:
+            threading.Thread(target=self.run, daemon=True).start()
+        except RuntimeError:
+            self.has_thread = False
 
     def begin(self, make_ready: Callable[[], Ready]) -> None:
-        self.begun.put(make_ready)
+        if self.has_thread:
+            self.begun.put(make_ready)
 
     def end(self) -> Ready | None:
         """Waits for the transaction, and gives it; None if that has failed. Making it again then raises the error."""
-        return self.ended.get()
+        return self.ended.get() if self.has_thread else None
 
     def run(self) -> None:
         while True:

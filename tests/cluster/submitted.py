@@ -18,7 +18,7 @@ from grove_etcd.loading import Loader, batches, changes, load
 from grove_etcd.past import Epoch
 from grove_etcd.planners import by_library, by_program
 from grove_etcd.program import GROVE
-from grove_etcd.submitting import Submitter
+from grove_etcd.submitting import MOST_AT_ONCE, Submitter
 from grove_etcd.wire import deleting, deleting_below, putting
 
 
@@ -118,6 +118,29 @@ def who_planned(programs, store, grove):
         jobs = [json.loads(store.read(store.keys.job(f"by{number}.{at}"))) for at in range(3)]
         texts.append([{name: job[name] for name in ("list", "plan")} for job in jobs])
     return None if all(each == texts[0] for each in texts) else f"the jobs are {texts}"
+
+
+def weights_are_read_however_large_the_tree_is(cluster, grove):
+    """Those of the first nodes at once, and of any others once they are needed. What isn't a weight is refused to those
+    that need it alone."""
+    rows = flat(MOST_AT_ONCE + 100, 3, "z")
+    store = Store(cluster, grove, "weights", rows=rows)
+    paths = sorted(paths_of(rows))
+    last, first, far = paths[MOST_AT_ONCE - 1], paths[MOST_AT_ONCE], paths[-1]
+    known = []
+    for path in (paths[1], last, first, far):
+        if store.submitter.weights([[["get", path]]]) != {"/": 1, path: 3}:
+            return f"{path} has other weights"
+        known.append(len(store.submitter.known))
+    store.do([["add", last, 1]], [["add", far, 1], ["add", paths[1], 1]])
+    done = store.records(last, far, paths[1]), len(store.audit().jobs)
+    store.members.write([putting(store.keys.weight(path), "no weight") for path in (paths[2], far)])
+    submitter = Submitter(store.members, store.keys, grove)
+    stray = [refusal(submitter.weights, [[["get", path]]]) for path in (paths[1], paths[2], far)]
+    counts = [MOST_AT_ONCE, MOST_AT_ONCE, MOST_AT_ONCE + 1, MOST_AT_ONCE + 2]
+    refused = [{"/": 1, paths[1]: 3}] + ["refused no-form Weight no weight"] * 2
+    wanted, came = (counts, ([4] * 3, 2), refused), (known, done, stray)
+    return None if came == wanted else f"wanted {wanted}; came {came}"
 
 
 def a_full_epoch_is_followed_by_the_next(cluster, grove):

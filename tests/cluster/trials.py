@@ -106,6 +106,7 @@ from submitted import (
     loads_that_mix_leave_one_document,
     status_needs_no_grpc,
     the_library_plans_what_the_program_does,
+    weights_are_read_however_large_the_tree_is,
     what_is_submitted_by_an_id_is_made_once,
     what_is_wrong_is_refused_by_name,
 )
@@ -457,6 +458,7 @@ TRIALS = [
     what_hasnt_its_form_sets_its_job_aside,
     the_library_plans_what_the_program_does,
     what_is_submitted_by_an_id_is_made_once,
+    weights_are_read_however_large_the_tree_is,
     a_full_epoch_is_followed_by_the_next,
     closed_epochs_are_forgotten_without_new_jobs,
     a_job_of_a_forgotten_name_is_kept,

@@ -1,5 +1,6 @@
 """What a member answered of a transaction, and how a job is seen by it."""
 import unittest
+from unittest import mock
 
 import here  # noqa: F401
 from grove_etcd import etcdrpc
@@ -89,6 +90,12 @@ class MadeReady(unittest.TestCase):
         self.assertIsNone(aside.end())
         aside.begin(lambda: Seen)
         self.assertIs(aside.end(), Seen)
+
+    def test_without_a_thread_nothing_is(self):
+        with mock.patch("threading.Thread.start", side_effect=RuntimeError("can't start new thread")):
+            aside = MakesReady()
+        aside.begin(lambda: Seen)
+        self.assertIsNone(aside.end())
 
 
 if __name__ == "__main__":

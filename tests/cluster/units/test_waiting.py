@@ -1,10 +1,13 @@
 """Watches, by a member whose answers are given."""
+import threading
+import time
 import unittest
+from unittest import mock
 
 from here import parsed
 from grove_etcd import etcdrpc
 from grove_etcd.members import Members
-from grove_etcd.waiting import Watched, changes, wait
+from grove_etcd.waiting import Ends, Watched, changes, wait
 from grove_etcd.etcdrpc import DELETED
 from grove_etcd.wire import Change, Found, reading
 
@@ -57,6 +60,20 @@ class Watches(unittest.TestCase):
     def test_a_key_that_is_gone_is_told(self):
         member = Member(12, [("a", "1", 5)])
         self.assertEqual(wait(member, Watched("a", "c", ("a", "b")), 9, 1), Change("b", None, 12))
+
+    def test_a_watch_that_has_told_is_ended(self):
+        """By another thread, or at once if the system gives none."""
+        for has_threads in (True, False):
+            member = Member(9, [], ("a", None, 10), ("a", "1", 11))
+            fails = mock.Mock(side_effect=RuntimeError("can't start new thread"))
+            with mock.patch("grove_etcd.waiting.ENDS", Ends()) as ends:
+                with mock.patch("threading.Thread.start", threading.Thread.start if has_threads else fails):
+                    self.assertEqual(wait(member, Watched("a"), 9, 1), Change("a", None, 10))
+                self.assertEqual(ends.thread is not None, has_threads)
+                until = time.monotonic() + 10
+                while member.answers and time.monotonic() < until:
+                    time.sleep(0.001)
+            self.assertEqual((member.answers, member.watches), ([], set()))
 
     def test_where_nothing_was_missed_nothing_is_read(self):
         member = Member(9, [], ("a", None, 10))
