@@ -4,6 +4,7 @@ from __future__ import annotations
 
 import re
 from dataclasses import dataclass
+from functools import cache
 from pathlib import Path
 
 TOP = Path(__file__).resolve().parent.parent
@@ -40,6 +41,7 @@ def read_times(table: Path = TABLE) -> ProofTimes:
     return ProofTimes(clock, processors, others, {name: float(seconds) for name, seconds in rows.items()})
 
 
+@cache
 def lines_of(crate: str) -> int:
     files = [path for path in (TOP / "crates" / crate).rglob("*") if path.suffix in (".rt", ".antt")]
     return sum(path.read_bytes().count(b"\n") for path in files if "out" not in path.relative_to(TOP).parts)
