@@ -3,12 +3,14 @@
 from __future__ import annotations
 
 import hashlib
+import multiprocessing
 import os
 from concurrent.futures import ProcessPoolExecutor
 from dataclasses import dataclass
-from functools import lru_cache, partial
+from functools import lru_cache, partial, wraps
 from pathlib import Path
-from typing import Iterator
+from threading import Lock
+from typing import Callable, Iterator, ParamSpec, TypeVar
 
 from documents import Plans, answers_in, framed, some_document, with_bounds
 from sweeps.documents import examples
@@ -33,6 +35,19 @@ LONGEST = 300
 
 # A status, and the lines or the fault without `refused`.
 Answer = tuple[int, bytes]
+Asked, Made = ParamSpec("Asked"), TypeVar("Made")
+
+
+def made_once(make: Callable[Asked, Made]) -> Callable[Asked, Made]:
+    """The same, kept for the next that ask alike; who asks while it is made waits for it."""
+    kept, turn = lru_cache(maxsize=1)(make), Lock()
+
+    @wraps(make)
+    def made(*asked: Asked.args, **named: Asked.kwargs) -> Made:
+        with turn:
+            return kept(*asked, **named)
+
+    return made
 
 
 def all_documents(count: int, first: int, planned: Plans) -> list[bytes]:
@@ -43,10 +58,11 @@ def all_documents(count: int, first: int, planned: Plans) -> list[bytes]:
     return [*own, *BROKEN, *with_bounds(planned), *seeded]
 
 
-@lru_cache(maxsize=1)
+@made_once
 def by_program(program: str, documents: tuple[bytes, ...]) -> list[Answer]:
     """What the program says, a process for each command of each document."""
-    with ProcessPoolExecutor(os.cpu_count()) as pool:
+    # Other trials run meanwhile, so this process, with their locks in whatever state they are, isn't forked.
+    with ProcessPoolExecutor(os.cpu_count(), multiprocessing.get_context("forkserver")) as pool:
         parts = pool.map(partial(answers_of, program), documents, chunksize=CHUNK)
         return [answer for part in parts for answer in part]
 

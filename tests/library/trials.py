@@ -14,11 +14,10 @@ from collections.abc import Iterator
 from concurrent.futures import ThreadPoolExecutor
 from contextlib import contextmanager
 from dataclasses import dataclass
-from functools import lru_cache
 from pathlib import Path
 
 import naming
-from comparing import Answer, all_documents, by_program, note_answers, read_answers, streams_of
+from comparing import Answer, all_documents, by_program, made_once, note_answers, read_answers, streams_of
 from numbering import Numbers, differences
 from storing import note_talk, talks, written
 from sweeps.documents import EXAMPLES
@@ -470,7 +469,7 @@ def note_lines(given: Given, count: int, room: Path, tally: Tally, words: list[s
         note_talk(tally, talk, ran.stdout)
 
 
-@lru_cache(maxsize=1)
+@made_once
 def documents_of(count: int, seed: int) -> tuple[bytes, ...]:
     return tuple(all_documents(count, seed, planned))
 
