@@ -4,7 +4,7 @@ the bindings beside plain locks, and prints microseconds.
 
     usage: bench/library.py [--grove PROGRAM] [--runs N]        (default: the proved program, 200 runs)
 
-Each plan is made in these ways, N times each; of the process there are a tenth as many runs:
+Each plan is made in these ways, N times each, in ten turns; of the process there are a tenth as many runs:
 
 - process: the document is handed to `grove plan`, and what it prints is taken;
 - by document: the same text by a call over the document's bytes;
@@ -12,12 +12,13 @@ Each plan is made in these ways, N times each; of the process there are a tenth 
 - a list that is new: the same over a tree of any size, of which the list's part is cut; no two runs have one list;
 - a kept plan: the same of a list that has been planned, 100 times in each run.
 
-The lists: that of examples/settings.json; the largest, 64 accesses that force 2,049 of 4,096 nodes; and, in the last
-two ways, four accesses of trees of some 5,000 and 1,000,000 nodes, whose ways down have as many nodes. Then come 400
-transactions of two of 64 leaves that do next to nothing, by one thread and by one task, in turn and N times: with
-sorted locks of the two leaves, and by plans that are kept. In Rust one thread and each of sixteen make 2,000. Then
-how long a list takes until it has its plan, of a shape that has been planned or hasn't. The last are `down` and `quota`
-of bench/hot.py by sixteen workers, by its own plans and by `Locks` of Python, in turn and five times.
+The lists: that of examples/settings.json, and the largest, 64 accesses that force 2,049 of 4,096 nodes. In the same
+turns come 400 transactions of two of 64 leaves that do next to nothing, by one thread and by one task, in turn and N
+times: with sorted locks of the two leaves, and by plans that are kept. In Rust one thread and each of sixteen make
+2,000, and it is timed how long a list takes until it has its plan, of a shape that has been planned or hasn't. So a
+slow second of the machine is in few runs of each. Then come, in the last two ways, four accesses of trees of some 5,000
+and 1,000,000 nodes, whose ways down have as many nodes. The last are `down` and `quota` of bench/hot.py by sixteen
+workers, by its own plans and by `Locks` of Python, in turn and five times.
 
 The median is printed, and in brackets the least. bench/library.rs, bench/transactions.rs and bench/hot.rs, compiled
 here by `cargo` and `rustc`, are the parts in Rust; tools/library has to have made the library. Each way has to give the
@@ -52,8 +53,8 @@ DEPTH, NODES, ACCESSES = 32, 4_096, 64
 LEAVES = [f"/g{number % 8}/leaf{number}" for number in range(64)]
 WEIGHTS = {"/": 64, **{f"/g{number}": 8 for number in range(8)}, **dict.fromkeys(LEAVES, 1)}
 TRANSACTIONS = 400
-# So often a kept plan is asked for in a run.
-FINDS = 100
+# So often a kept plan is asked for in a run; and in so many turns the runs are made.
+FINDS, TURNS = 100, 10
 # Trees of which all but the root and its children are leaves: so many children, with so many leaves each.
 WIDE = {"5,000": 70, "1,000,000": 1_000}
 HOT, HOT_RUNS, HOT_WORKERS = ("down", "quota"), 5, 16
@@ -76,6 +77,8 @@ pickbracken = {{ path = "{crate}" }}
 """
 
 Row = dict[str, Union[int, str, None]]
+# By the way, the seconds of each run.
+Times = dict[str, list[float]]
 
 
 @dataclass(frozen=True)
@@ -126,17 +129,31 @@ def paths_of(rows: list[Row]) -> list[str]:
 
 def main() -> None:
     given = arguments()
-    with tempfile.TemporaryDirectory(prefix="grove-bench-") as room:
-        rust = built(Path(room))
-        for case in (settings(), largest()):
-            tell(case.name, timed(case, given.grove, given.runs, rust))
-        tell("four accesses of a larger tree", wide(given.runs) | named_lines(printed_by(rust, given.runs, "")))
-        in_rust = times_in_rust(rust, given.runs)
-    first = {name: in_rust.pop(name) for name in list(in_rust) if name.endswith(" shape")}
-    tell("a transaction of 2 accesses", transactions(given.runs) | in_rust | times_in_c(given.runs))
-    tell("a list that comes first, of 2 accesses", first_times(given.runs) | first)
+    with tempfile.TemporaryDirectory(prefix="grove-bench-") as folder:
+        made = built(Path(folder))
+        for name, times in in_turns(given.grove, max(given.runs // TURNS, 1), made).items():
+            tell(name, times)
+        tell("four accesses of a larger tree", wide(given.runs) | in_rust(made, given.runs, ""))
     tell(f"64 jobs of 8 accesses of a millisecond, {HOT_WORKERS} workers", hot_times(given.grove))
     print(f"load of the machine: {' '.join(f'{load:.1f}' for load in os.getloadavg())}")
+
+
+def in_turns(grove: str, runs: int, made: Path) -> dict[str, Times]:
+    """By what is done, the times of so many runs in each turn."""
+    times: dict[str, Times] = {}
+    for _ in range(TURNS):
+        for case in (settings(), largest()):
+            add(times.setdefault(case.name, {}), timed(case, grove, runs, made))
+        quick = transactions(runs) | transactions_of(made / "transactions", runs) | transactions_of(made / "in_c", runs)
+        first = {name: quick.pop(name) for name in list(quick) if name.endswith(" shape")}
+        add(times.setdefault("a transaction of 2 accesses", {}), quick)
+        add(times.setdefault("a list that comes first, of 2 accesses", {}), first_times(runs) | first)
+    return times
+
+
+def add(times: Times, more: Times) -> None:
+    for way, seconds in more.items():
+        times.setdefault(way, []).extend(seconds)
 
 
 def arguments() -> argparse.Namespace:
@@ -146,8 +163,8 @@ def arguments() -> argparse.Namespace:
     return parser.parse_args()
 
 
-def timed(case: Case, grove: str, runs: int, rust: Path) -> dict[str, list[float]]:
-    """The seconds of each run, by the way; every way has to give one cost."""
+def timed(case: Case, grove: str, runs: int, made: Path) -> Times:
+    """Every way has to give one cost."""
     whole, tree = case.document(), Tree.from_paths(case.weights())
     accesses = [Access.get(path).lasting(length) for path, length in case.gets]
     wanted = document.plan(whole)
@@ -161,10 +178,10 @@ def timed(case: Case, grove: str, runs: int, rust: Path) -> dict[str, list[float
         need(f"cost {found.cost}\n" == wanted[: wanted.index("\n") + 1], "Python has another plan")
     times = {name: seconds_of(way, max(runs // 10, 1) if name == "process" else runs) for name, way in ways.items()}
     times |= {f"Python, {name}": seconds for name, seconds in of_any_size(case.weights(), case.gets, runs).items()}
-    return times | in_rust(case, rust, runs, wanted)
+    return times | in_rust(made, runs, case.numbers(), wanted)
 
 
-def of_any_size(weights: dict[str, int], gets: list[tuple[str, int]], runs: int) -> dict[str, list[float]]:
+def of_any_size(weights: dict[str, int], gets: list[tuple[str, int]], runs: int) -> Times:
     """Plans over a tree of any size: of lists that are new, and of one that is known."""
     plans, known = Plans(weights), tuple(gets)
     (first, _), *others = gets
@@ -181,9 +198,9 @@ def repeated(plans: Plans, known: tuple[tuple[str, int], ...]) -> None:
         plans.plan(known)
 
 
-def wide(runs: int) -> dict[str, list[float]]:
+def wide(runs: int) -> Times:
     """Four accesses over trees of different sizes, of which the ways down have as many nodes."""
-    times: dict[str, list[float]] = {}
+    times: Times = {}
     for name, count in WIDE.items():
         paths = [f"/g{leaf // count}/leaf{leaf % count}" for leaf in range(count * count)]
         gets = [(paths[fifth * len(paths) // 5], 1) for fifth in (1, 2, 3, 4)]
@@ -206,31 +223,31 @@ def once(way: Callable[[], object]) -> float:
     return time.perf_counter() - begun
 
 
-def in_rust(case: Case, rust: Path, runs: int, wanted: str) -> dict[str, list[float]]:
-    """What the part in Rust prints: the cost, and lines of nanoseconds."""
-    cost, *lines = printed_by(rust, runs, case.numbers())
-    need(wanted.startswith(f"{cost}\n"), "Rust has another plan")
-    return named_lines(lines)
+def in_rust(made: Path, runs: int, text: str, wanted: str = "") -> Times:
+    """What the part in Rust prints of a case: the cost, and lines of nanoseconds; of the larger trees such lines, if
+    there is none."""
+    words = [made / "library", str(runs)]
+    ran = subprocess.run(words, input=text, stdout=subprocess.PIPE, check=True, text=True)
+    lines = ran.stdout.splitlines()
+    need(not text or wanted.startswith(f"{lines.pop(0)}\n"), "Rust has another plan")
+    return {f"Rust, {name}": seconds for name, seconds in by_name(lines).items()}
 
 
-def printed_by(rust: Path, runs: int, text: str) -> list[str]:
-    """What the part in Rust prints of a case, or of the larger trees if there is none."""
-    words = [rust / "library", str(runs)]
-    return subprocess.run(words, input=text, stdout=subprocess.PIPE, check=True, text=True).stdout.splitlines()
-
-
-def named_lines(lines: list[str]) -> dict[str, list[float]]:
-    """The seconds of each way in Rust, of which a line has the name and the nanoseconds."""
+def by_name(lines: list[str]) -> Times:
+    """The seconds of each way, of which a line has the name and the nanoseconds."""
     named = (line.split("\t") for line in lines)
-    return {f"Rust, {name}": [float(word) / 1e9 for word in times.split()] for name, times in named}
+    return {name: [float(word) / 1e9 for word in times.split()] for name, times in named}
 
 
 def built(room: Path) -> Path:
-    """The folder of the programs in Rust."""
+    """The folder of the programs in Rust, with the one in C."""
     (room / "Cargo.toml").write_text(MANIFEST.format(folder=TOP / "bench", crate=TOP / "bindings/rust"))
     surroundings = {**os.environ, "CARGO_TARGET_DIR": str(room / "target")}
     subprocess.run(["cargo", "build", "--quiet", "--release", "--offline"], cwd=room, env=surroundings, check=True)
-    return room / "target/release"
+    made = room / "target/release"
+    parts = [f"-I{TOP / 'include'}", TOP / "bench/transactions.c", TOP / "out/library/libgrove.a", "-pthread"]
+    subprocess.run(["cc", "-std=c99", "-O2", *parts, "-o", made / "in_c"], check=True)
+    return made
 
 
 def pairs(seed: int) -> list[tuple[str, ...]]:
@@ -238,7 +255,7 @@ def pairs(seed: int) -> list[tuple[str, ...]]:
     return [tuple(drawn.sample(LEAVES, 2)) for _ in range(TRANSACTIONS)]
 
 
-def transactions(runs: int) -> dict[str, list[float]]:
+def transactions(runs: int) -> Times:
     """The seconds that a transaction takes, in each run of all of them."""
     records, locks, plain = dict.fromkeys(LEAVES, 0), Locks(WEIGHTS), {path: threading.Lock() for path in LEAVES}
     todo = pairs(1)
@@ -257,7 +274,7 @@ def transactions(runs: int) -> dict[str, list[float]]:
                     records[path] += 1
 
     planned()
-    times: dict[str, list[float]] = {"Python threads, sorted locks": [], "Python threads, planned": []}
+    times: Times = {"Python threads, sorted locks": [], "Python threads, planned": []}
     for _ in range(runs):
         times["Python threads, sorted locks"].append(once(by_sorted_locks) / TRANSACTIONS)
         times["Python threads, planned"].append(once(planned) / TRANSACTIONS)
@@ -265,7 +282,7 @@ def transactions(runs: int) -> dict[str, list[float]]:
     return times | asyncio.run(transactions_of_a_task(runs))
 
 
-async def transactions_of_a_task(runs: int) -> dict[str, list[float]]:
+async def transactions_of_a_task(runs: int) -> Times:
     records, locks, plain = dict.fromkeys(LEAVES, 0), AsyncLocks(WEIGHTS), {path: asyncio.Lock() for path in LEAVES}
     todo = pairs(1)
 
@@ -288,7 +305,7 @@ async def transactions_of_a_task(runs: int) -> dict[str, list[float]]:
         return (time.perf_counter() - begun) / TRANSACTIONS
 
     await planned()
-    times: dict[str, list[float]] = {"asyncio, sorted locks": [], "asyncio, planned": []}
+    times: Times = {"asyncio, sorted locks": [], "asyncio, planned": []}
     for _ in range(runs):
         times["asyncio, sorted locks"].append(await once_awaited(by_sorted_locks))
         times["asyncio, planned"].append(await once_awaited(planned))
@@ -296,19 +313,15 @@ async def transactions_of_a_task(runs: int) -> dict[str, list[float]]:
     return times
 
 
-def times_in_c(runs: int) -> dict[str, list[float]]:
-    """The same in C, by bench/transactions.c."""
-    with tempfile.TemporaryDirectory(prefix="grove-bench-") as room:
-        parts = [f"-I{TOP / 'include'}", TOP / "bench/transactions.c", TOP / "out/library/libgrove.a", "-pthread"]
-        subprocess.run(["cc", "-std=c99", "-O2", *parts, "-o", f"{room}/transactions"], check=True)
-        ran = subprocess.run([f"{room}/transactions", str(runs)], stdout=subprocess.PIPE, check=True, text=True)
-    lines = (line.split("\t") for line in ran.stdout.splitlines())
-    return {name: [float(word) / 1e9 for word in numbers.split()] for name, numbers in lines}
+def transactions_of(program: Path, runs: int) -> Times:
+    """The same by bench/transactions.rs or bench/transactions.c, which prints nanoseconds."""
+    ran = subprocess.run([program, str(runs)], stdout=subprocess.PIPE, check=True, text=True)
+    return by_name(ran.stdout.splitlines())
 
 
-def first_times(runs: int) -> dict[str, list[float]]:
+def first_times(runs: int) -> Times:
     """The seconds until a list has its plan that had none: of a shape that hasn't been planned either, and that has."""
-    times: dict[str, list[float]] = {"Python, a new shape": [], "Python, a known shape": []}
+    times: Times = {"Python, a new shape": [], "Python, a known shape": []}
     for _ in range(runs):
         locks = Locks(WEIGHTS)
         for path in LEAVES:
@@ -318,16 +331,9 @@ def first_times(runs: int) -> dict[str, list[float]]:
     return times
 
 
-def times_in_rust(rust: Path, runs: int) -> dict[str, list[float]]:
-    """The same in Rust, which prints nanoseconds."""
-    ran = subprocess.run([rust / "transactions", str(runs)], stdout=subprocess.PIPE, check=True, text=True)
-    lines = (line.split("\t") for line in ran.stdout.splitlines())
-    return {name: [float(word) / 1e9 for word in numbers.split()] for name, numbers in lines}
-
-
-def hot_times(grove: str) -> dict[str, list[float]]:
+def hot_times(grove: str) -> Times:
     """The seconds of shapes of bench/hot.py, by its plans and by `Locks`."""
-    times: dict[str, list[float]] = {}
+    times: Times = {}
     cases = [case for name in HOT for case in hot.cases_of(grove, name, ["settled"], in_python=True)]
     with tempfile.TemporaryDirectory(prefix="grove-hot-") as folder:
         command = [str(hot.built(folder))]
@@ -338,7 +344,7 @@ def hot_times(grove: str) -> dict[str, list[float]]:
     return times
 
 
-def tell(name: str, times: dict[str, list[float]]) -> None:
+def tell(name: str, times: Times) -> None:
     print(name)
     for way, seconds in times.items():
         median, least = 1e6 * statistics.median(seconds), 1e6 * min(seconds)
