@@ -625,20 +625,17 @@ class Attempt:
         """None if it isn't woken in time."""
         if before is None:
             return self.wait_at(found, path, seconds)
-        return self.wait_behind(found, path, before, seconds)
-
-    def wait_behind(
-        self, found: Seen, path: str, before: str, seconds: float
-    ) -> Callable[[], Seen | None] | None:
-        """The node may be handed to this job all the same, by a job that hasn't seen those before it."""
-        own = self.keys.waiter(path, self.job.age, self.job.name)
-        watched = Watched(before, own + "\0", (before, own))
-        came = wait(self.members, watched, found.found.revision, seconds, lambda change: change.value is None)
-        return partial(self.look, found.progress.step, came.revision) if came else None
+        until, step = time.monotonic() + seconds, found.progress.step
+        came = self.left_by_the_one_before(found, path, before, seconds)
+        if came is None:
+            return None
+        # If the node was held when the line was read, a watch tells of all that has become of it since.
+        if came.key == before and found.found.value(self.keys.owner(path)):
+            came = self.free_or_own(found, path, max(0.0, until - time.monotonic())) or came
+        return partial(self.look, step + (came.value == self.job.name), came.revision)
 
     def wait_at(self, found: Seen, path: str, seconds: float) -> Callable[[], Seen | None] | None:
-        watched, ours = Watched(self.keys.owner(path)), ("", self.job.name)
-        came = wait(self.members, watched, found.found.revision, seconds, lambda change: change.value in ours)
+        came = self.free_or_own(found, path, seconds)
         if came is None:
             return None
         if not came.value and self.limits.works:
@@ -646,6 +643,18 @@ class Attempt:
             freed = found.freed(self.keys, path, came.revision)
             return lambda: freed
         return partial(self.look, found.progress.step + bool(came.value), came.revision)
+
+    def left_by_the_one_before(self, found: Seen, path: str, before: str, seconds: float) -> Change | None:
+        """That the job before this one has left the line; or this one, to which the node may be handed all the same, by
+        a job that hasn't seen those before it."""
+        own = self.keys.waiter(path, self.job.age, self.job.name)
+        watched = Watched(before, own + "\0", (before, own))
+        return wait(self.members, watched, found.found.revision, seconds, lambda change: change.value is None)
+
+    def free_or_own(self, found: Seen, path: str, seconds: float) -> Change | None:
+        """That the node is free, or this job's."""
+        watched, ours = Watched(self.keys.owner(path)), ("", self.job.name)
+        return wait(self.members, watched, found.found.revision, seconds, lambda change: change.value in ours)
 
     def is_nobody(self, waiter: str) -> bool:
         """Stands a job in line that isn't under way? It may have been set aside, or be gone."""

@@ -57,8 +57,8 @@ class Ready:
 
 
 class MakesReady:
-    """Makes one transaction ready at a time. After each `begin` there has to be an `end`. Without a thread, if the system
-    gives none, it makes nothing ready."""
+    """Makes one transaction ready at a time. After each `begin` there has to be an `end`. If the system gives it no
+    thread, it makes nothing ready."""
 
     def __init__(self) -> None:
         self.begun: SimpleQueue[Callable[[], Ready]] = SimpleQueue()

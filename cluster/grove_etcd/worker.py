@@ -138,20 +138,14 @@ class Worker:
         with self.on_leash(), self.means.signs.during():
             self.means.journal.log("started", worker=self.means.name)
             try:
-                self.become_known()
+                # By it others leave this worker a share.
+                self.means.signs.give_now()
                 self.do_jobs(until_ended)
             finally:
                 self.end()
             self.means.journal.log("stopped", worker=self.means.name)
         if self.error is not None:
             raise self.error
-
-    def become_known(self) -> None:
-        """Others know of it by its signs of life. Without work they leave it a share, so one is given first."""
-        if self.means.work is None:
-            self.means.signs.give_now()
-        else:
-            self.means.aside.submit(self.means.signs.give_now)
 
     def end(self) -> None:
         """Once all its threads have."""
@@ -438,8 +432,10 @@ class Worker:
 
     def more_jobs(self, known: set[str]) -> list[Job]:
         """Some jobs that nobody has begun, without those that are known."""
-        found = self.members.read([reading_below(self.keys.whole("q"), MOST_LOOKED_AT)])
-        some = self.some_of(fresh_in(found.entries), {self.means.name})
+        fresh, signs = (self.keys.whole(kind) for kind in "qs")
+        found = self.members.read([reading_below(fresh, MOST_LOOKED_AT), reading_below(signs, keys_only=True)])
+        workers = {self.means.name, *map(last_part, found.below(signs))}
+        some = self.some_of(fresh_in(found.below(fresh)), workers)
         return self.jobs([name for name in some if name not in known])
 
     def attempts(self, jobs: list[Job]) -> list[Attempt]:

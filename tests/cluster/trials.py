@@ -4,6 +4,7 @@ import shutil
 import threading
 import time
 from collections import Counter
+from concurrent.futures import ThreadPoolExecutor
 from dataclasses import replace
 from functools import partial
 from random import Random
@@ -126,6 +127,7 @@ from working import (
 
 from etcd3 import etcdrpc
 from grove_etcd.keys import Keys
+from grove_etcd.letting_go import drop_all
 from grove_etcd.members import Lost, Members
 from grove_etcd.submitting import Submitter
 from grove_etcd.weighing import reweigh
@@ -316,6 +318,33 @@ def a_job_is_woken_where_the_node_is_handed_past_an_older_one(cluster, grove):
     return None if came == (0, 1, [3]) else f"came {came}"
 
 
+def who_is_behind_one_that_leaves_the_line_is_woken(cluster, grove):
+    """While another job holds the node; and where it is free, since whoever let it go hadn't seen the line."""
+    came = {is_held: woken_behind(cluster, grove, is_held) for is_held in (True, False)}
+    return None if came == dict.fromkeys((True, False), ([], [2])) else f"came {came}"
+
+
+def woken_behind(cluster, grove, is_held):
+    store = Store(cluster, grove, f"behind-{int(is_held)}", [[["add", "/", 1]]] * 3)
+    holds, older, younger = (store.attempt(number, patience=2.5 * SECONDS) for number in range(3))
+    held = one_group(holds)
+    one_group(older)
+    one_group(younger)
+    if not is_held:
+        holds.run(held)
+    waits = younger.look(0)
+    with ThreadPoolExecutor(1) as pool:
+        woken = pool.submit(younger.go_on, waits)
+        await_true(lambda: store.members.watches)
+        older.set_aside(older.look(0), "why not", 0)
+        list(drop_all(store.members, store.keys, [store.jobs[1]]))
+        if is_held:
+            holds.run(holds.look(1))
+        younger.run(woken.result(SECONDS))
+    store.audit()
+    return store.left("qua"), store.records("/")
+
+
 def run_all(workers):
     threads = [threading.Thread(target=worker.run, args=(True,)) for worker in workers]
     for thread in threads:
@@ -409,6 +438,7 @@ TRIALS = [
     a_job_is_taken_up_by_one_that_waits_for_it,
     one_is_woken_at_each_release,
     a_job_is_woken_where_the_node_is_handed_past_an_older_one,
+    who_is_behind_one_that_leaves_the_line_is_woken,
     one_that_waits_gives_signs,
     the_last_sign_of_one_that_is_gone_is_deleted,
     a_job_that_waits_holds_up_no_others,
