@@ -60,14 +60,15 @@ def is_last(job: Job, step: int) -> bool:
 
 
 def reads_for(keys: Keys, job: Job, step: int, limits: Limits) -> list[Operation]:
-    """What has to be read of the job, and before the steps from this one on."""
-    own = keys.fresh(job.age, job.name), keys.under_way(job.name), keys.progress(job.name)
+    """What has to be read of the job, and before the steps from this one on. One that has taken steps is begun."""
+    fresh = [] if step else [keys.fresh(job.age, job.name)]
+    own = map(reading, [*fresh, keys.under_way(job.name), keys.progress(job.name)])
     is_there = reading(keys.job(job.name), keys_only=True)
-    return [*map(reading, own), is_there, *reads_of_steps(keys, job, step, limits, True)]
+    return [*own, is_there, *reads_of_steps(keys, job, step, limits, True)]
 
 
 def reads_of_steps(keys: Keys, job: Job, step: int, limits: Limits, stands: bool) -> list[Operation]:
-    """What has to be read before these steps; `stands` is whether the job may stand in a line."""
+    """What has to be read before these steps; `stands` is whether the job may stand in the first one's line."""
     reads: list[Operation] = []
     records: set[str] = set()
     for number, each in enumerate(window(job, step)):
@@ -80,7 +81,7 @@ def reads_of_steps(keys: Keys, job: Job, step: int, limits: Limits, stands: bool
             own = keys.waiter(each.path, job.age, job.name)
             line = keys.waiters(each.path)
             reads += [reading(keys.owner(each.path)), reading_below(line, limit=1, keys_only=True)]
-            if stands:
+            if stands and not number:
                 reads.append(reading_last(line, own, keys_only=True))
         else:
             # The job to which the node is handed.

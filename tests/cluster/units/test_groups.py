@@ -66,8 +66,11 @@ class Groups(unittest.TestCase):
         self.assertEqual(group(first.after(), limits).taken, 5)
 
     def test_what_is_read(self):
-        self.assertEqual(len(reads_for(KEYS, JOB, 0, Limits())), 4 + 2 * 3 + 2 + 1)
-        self.assertEqual(len(reads_for(KEYS, JOB, 0, Limits(works=True))), 4 + 2 * 3 + 1 + 1)
+        """Of the job itself, of each lock, for whoever gets what is unlocked, and the record. The job's own place is
+        read in the line of the first step alone."""
+        self.assertEqual(len(reads_for(KEYS, JOB, 0, Limits())), 4 + (3 + 2) + 2 + 1)
+        self.assertEqual(len(reads_for(KEYS, JOB, 0, Limits(works=True))), 4 + (3 + 2) + 1 + 1)
+        self.assertEqual(len(reads_for(KEYS, JOB, 1, Limits())), 3 + 3 + 2 + 1)
 
     def test_which_group_is_the_last(self):
         self.assertEqual([is_last(JOB, step) for step in range(6)], [False, False, False, True, True, True])
