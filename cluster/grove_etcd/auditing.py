@@ -143,6 +143,12 @@ class Auditor:
         self.ledger.close(history.names, history.chain.own)
         self.head = replace(self.head, epoch=number + 1)
 
+    def follow_rest(self, revision: int) -> None:
+        """The same, if an audit, maybe this one before it was stopped, had begun to do so when this one began."""
+        begun = self.epochs.get(self.head.epoch)
+        if begun is not None:
+            self.follow_close(self.head.epoch, begun, revision)
+
     def note_written(self, history: History, waits: list[int]) -> None:
         if self.written is not None:
             self.written.append(put_by(self.keys, history, waits))

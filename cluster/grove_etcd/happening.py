@@ -78,6 +78,8 @@ class Happening:
         if change.value is not None and kind == "x" and epoch_of(change.key, change.value).going and self.forgotten:
             return
         if not self.auditor.has_written(change.key, change.value):
+            self.auditor.follow_rest(revision)
+        if not self.auditor.has_written(change.key, change.value):
             raise Refused(f"stray-epoch {change.key}")
         if kind == "head" and change.value is not None:
             self.auditor.see_head(change.value)

@@ -10,8 +10,10 @@ from spoiled import AT_A, put_job, text_of
 from store_at_hand import BOTH, SECONDS, Programs, Store, await_true, one_group, refusal
 
 from etcd3 import etcdrpc
+from grove_etcd.auditing import Auditor
 from grove_etcd.chain import Left
 from grove_etcd.failures import cut
+from grove_etcd.following import Followed as Kept
 from grove_etcd.following import Follower
 from grove_etcd.head import head_text
 from grove_etcd.jobs import Event, Progress, Waiter
@@ -88,6 +90,28 @@ def what_happens_is_followed(cluster, grove):
     wanted = sorted([*wanted, *(f"late.{n}" for n in range(4))])
     came = first.end, second.end, jobs == wanted, first.missed + second.missed, store.left("pjqux")
     return None if came == (None, None, True, [], []) else f"came {came}, {set(wanted) ^ set(jobs)}"
+
+
+def one_that_was_stopped_while_it_closed_an_epoch_goes_on(cluster, grove):
+    """What it had put of that was seen by it up to the epoch's jobs, or up to what it left."""
+    came = {seen: followed_from(cluster, grove, seen) for seen in (0, 1)}
+    return None if came == dict.fromkeys((0, 1), (None, ["next.0"], [])) else f"came {came}"
+
+
+def followed_from(cluster, grove, seen):
+    store = Store(cluster, grove, f"halfway-{seen}", [BOTH] * 2)
+    store.work()
+    auditor = Auditor(store.members, store.keys, grove)
+    jobs = [past.job.name for past in auditor.open_jobs()]
+    began = store.members.get(store.keys.head()).revision
+    store.write(putting(store.keys.closed(auditor.head.epoch), Epoch(jobs).text()))
+    store.audit()
+    store.write(putting(store.keys.followed(), Kept(began + 1 + seen).text()))
+    with Followed(cluster, store) as follower:
+        put_job(store, "next.0", text_of([["add", "/a", 1]], AT_A, 99), 99)
+        store.work()
+        await_true(lambda: follower.jobs() or follower.end)
+    return follower.end, follower.jobs(), follower.missed
 
 
 def a_name_that_no_job_has_stops_nobody(cluster, grove):

@@ -24,6 +24,7 @@ from fleet import Fleet
 from followed import (
     a_name_that_no_job_has_stops_nobody,
     it_is_followed_by_the_program,
+    one_that_was_stopped_while_it_closed_an_epoch_goes_on,
     what_happens_is_followed,
     what_no_event_tells_of_is_refused,
     what_was_compacted_is_said_to_be_missed,
@@ -456,6 +457,7 @@ TRIALS = [
     what_was_made_ready_is_made_after_a_sign,
     more_jobs_are_read_while_there_is_work,
     a_forgotten_job_is_not_done_again,
+    one_that_was_stopped_while_it_closed_an_epoch_goes_on,
     what_happens_is_followed,
     what_no_event_tells_of_is_refused,
     a_name_that_no_job_has_stops_nobody,
