@@ -6,7 +6,7 @@ from unittest import mock
 
 import grpc
 from parked import put_all, started
-from store_at_hand import Store, await_true, one_group
+from store_at_hand import Store, Untimely, await_true, in_time, one_group
 
 from grove_etcd.jobs import UnderWay
 from grove_etcd.members import Members
@@ -107,7 +107,7 @@ def what_is_begun_without_an_answer_is_gone_on_with(cluster, grove):
     """By the transaction that ends the job before, when the worker then looks for other jobs. One that waits for its
     node goes on after it."""
     with mock.patch("grove_etcd.shares.random.randrange", lambda _: 0):
-        return either_way(begun_unanswered, cluster, grove, "begun")
+        return in_time(lambda number: either_way(begun_unanswered, cluster, grove, f"begun-{number}"))
 
 
 def begun_unanswered(cluster, store, is_sent):
@@ -123,8 +123,12 @@ def begun_unanswered(cluster, store, is_sent):
 
     worker = Worker(members, store.keys, work, SHORT, leashed=False)
     thread = started([worker])[0]
-    is_begun = await_true(lambda: members.unanswered)
-    return end_of(store, worker, thread, [12, 1]) if is_begun else "nothing was begun"
+    await_true(lambda: members.unanswered or not store.left("qu"))
+    if not members.unanswered:
+        worker.stop()
+        thread.join()
+        raise Untimely("nothing was begun")
+    return end_of(store, worker, thread, [12, 1])
 
 
 def what_names_a_worker_is_gone_on_with_by_it(cluster, grove):
