@@ -1,16 +1,14 @@
 """Workers as processes, with what they say on standard error; and what is to be told of jobs that don't end."""
-import signal
 from dataclasses import dataclass
 from functools import partial
 from pathlib import Path
 from subprocess import Popen
 
-from store_at_hand import SECONDS, await_true, moved
+from store_at_hand import LEASHED, SECONDS, await_true, moved
 
 from grove_etcd.jobs import Progress, UnderWay
 from grove_etcd.keys import Keys, last_part
 
-LEASHED = -signal.SIGKILL
 # Of each worker, as many lines are told.
 MOST_LINES = 8
 # Of jobs that haven't ended, as many are told.

@@ -8,7 +8,7 @@ from collections import Counter
 from functools import partial
 from random import Random
 
-from store_at_hand import SECONDS, Untimely, await_true, in_time
+from store_at_hand import LEASHED, SECONDS, Untimely, await_true, in_time
 from ways import Ways
 from working import Counted
 
@@ -16,7 +16,6 @@ AT_A = [["add", "/a", 1]]
 # How long others wait for a sign of life; and how long work takes, also without a leash, when they have to come to it.
 PATIENCE, WORK, LOOSE_WORK = 1.0, 2.0, 4.0
 WORDS = ["--patience", str(PATIENCE), "--tries", "50"]
-KILLED = -signal.SIGKILL
 # Of the trial at random: workers, lists, how long work takes, and the longest time for which something is stopped.
 WORKERS, LISTS, WORK_AT_RANDOM = 6, [AT_A, [["add", "/", 1], ["add", "/b/c", 1]], [["add", "/b", 1]]] * 6, 1.2
 LONGEST = 4 * PATIENCE
@@ -86,9 +85,9 @@ def fault_of_killed(counted, worker, statuses):
     came = worker.poll(), statuses, is_unheld(counted)
     worker.kill()
     worker.wait()
-    if KILLED in statuses and not came[2]:
+    if LEASHED in statuses and not came[2]:
         raise Untimely(f"others ended with {statuses}")
-    if came != (KILLED, [0, 0], False):
+    if came != (LEASHED, [0, 0], False):
         return f"it ended with {came[0]}, others with {statuses}, {counted.tries()}"
     return counted.fault(1, killed=1)
 
@@ -143,7 +142,7 @@ class Disturbed:
     def has_work(self):
         """Also starts those again that were killed."""
         for number, worker in enumerate(self.workers):
-            if worker.poll() == KILLED:
+            if worker.poll() == LEASHED:
                 self.counts["killed"] += 1
                 self.workers[number] = self.worker(number)
         store = self.counted.store

@@ -1,12 +1,12 @@
 """Trials of a fleet that is gone all at once, in the midst of jobs that wait for each other: a few fresh workers do all
 that is left. What is gone is what workers leave that were killed: their jobs' keys, and their last signs."""
 import signal
-import subprocess
 import time
 
+from fleet import Fleet
 from parked import plan_at, put_all, started, workers_of
 from spoiled import LEAVES, PATIENCE, WIDE
-from store_at_hand import SECONDS, SMALL, Programs, Store, await_true, one_group
+from store_at_hand import SMALL, Programs, Store, await_true, one_group
 
 from grove_etcd.jobs import Job
 from grove_etcd.signs import Sign
@@ -133,14 +133,14 @@ def generations_of_workers_are_killed(cluster, grove):
             worker.send_signal(signal.SIGKILL)
         for worker in fleet:
             worker.wait()
-    last = [programs.start("work", "--slot", "1", "--patience", "1", "--until-ended") for _ in range(FRESH)]
+    last = Fleet(cluster, programs, ["--slot", "1", "--patience", "1", "--until-ended"])
     try:
-        statuses = [worker.wait(SECONDS) for worker in last]
-    except subprocess.TimeoutExpired:
-        return f"after {SECONDS:.0f} s there are {store.left('quv')}"
+        last.start(FRESH)
+        fault = last.await_end()
     finally:
-        for worker in last:
-            worker.kill()
+        last.end()
+    if fault:
+        return fault
     store.audit()
-    came = statuses, store.records("/", "/x0"), store.left("quvoa")
-    return None if came == ([0] * FRESH, [40, 40], []) else f"came {came}"
+    came = store.records("/", "/x0"), store.left("quvoa")
+    return None if came == ([40, 40], []) else f"came {came}"

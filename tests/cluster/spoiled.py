@@ -6,18 +6,17 @@ import threading
 from functools import partial
 from random import Random
 
-from fleet import LEASHED
 from store_at_hand import (
     BOTH,
     SECONDS,
     SMALL,
     Programs,
     Store,
-    Untimely,
     await_true,
     in_time,
     one_group,
     refusal,
+    untimely_if_leashed,
 )
 from working import Counted
 
@@ -184,8 +183,7 @@ def fault_of_work(cluster, grove, function, wanted, number):
         worker = counted.start(function, "--tries", "2", "--patience", "1", "--until-ended", stderr=subprocess.PIPE)
         errors = worker.communicate(timeout=SECONDS)[1]
         ends.append(worker.returncode)
-    if LEASHED in ends:
-        raise Untimely(f"workers ended with {ends}")
+    untimely_if_leashed(ends)
     told = dict(failed(store.members, store.keys)).get(store.jobs[0])
     is_short = max(map(len, errors.splitlines()), default=0) < 5000
     if not (told and told.why.startswith(wanted) and len(told.why) <= 4096 and told.holds == ["/a"] and is_short):

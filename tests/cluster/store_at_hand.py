@@ -1,4 +1,5 @@
 """A store of a small tree on a cluster, and the programs of cluster/ called on one."""
+import signal
 import subprocess
 import time
 from pathlib import Path
@@ -36,8 +37,18 @@ SMALL = [
 BOTH = [["add", "/a", 1], ["add", "/b", 1]]
 
 
+# How a worker ends that its leash has killed.
+LEASHED = -signal.SIGKILL
+
+
 class Untimely(Exception):
     """Nothing is wrong, but things didn't come about at the times at which they had to: so nothing was shown."""
+
+
+def untimely_if_leashed(statuses):
+    """A worker that its leash has killed had no processor, or no answer from etcd, for as long as others wait."""
+    if LEASHED in statuses:
+        raise Untimely(f"workers ended with {statuses}")
 
 
 def in_time(trial):
@@ -157,6 +168,7 @@ class Programs:
     def lines(self, name, *words):
         """What it prints that isn't said on standard error."""
         ran = self.ran(name, *words)
+        untimely_if_leashed([ran.returncode])
         if ran.returncode:
             raise RuntimeError(f"{name} ended with status {ran.returncode}: {ran.stdout}{ran.stderr}")
         return ran.stdout.splitlines()

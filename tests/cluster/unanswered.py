@@ -14,7 +14,7 @@ from grove_etcd.wire import putting
 from grove_etcd.worker import Worker
 
 # How long a worker's own jobs may take to end, and how patient it is: so no job is taken up since it gave no sign.
-SECONDS, PATIENCE = 20.0, 60.0
+SECONDS, PATIENCE = 120.0, 600.0
 # The same for one that looks for other jobs after each that takes longer.
 SHORT = 1.0
 LEFT = b'"by":""'
