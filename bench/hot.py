@@ -347,6 +347,14 @@ def line_of(tree: Tree, accesses: list[Access], steps: list[Step]) -> str:
     return " ".join(f"{kind}:{node}" for (kind, _), node in zip(steps, nodes))
 
 
+def jobs_for_locks(made: Shape) -> str:
+    """The tree and the lists, as bench/hot_locks.rs reads them."""
+    paths = Tree(made.rows).paths
+    nodes = [f"{row['weight']} {path}" for row, path in zip(made.rows, paths)]
+    lists = [" ".join(path for _, path, _ in accesses) for accesses in made.lists]
+    return "\n".join([str(len(paths)), *nodes, *lists])
+
+
 def built(folder: str) -> Path:
     program = Path(folder) / "hot"
     subprocess.run(["rustc", "-O", "-C", "panic=abort", "-o", program, TOP / "bench/hot.rs"], check=True)

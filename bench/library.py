@@ -18,11 +18,11 @@ times: with sorted locks of the two leaves, and by plans that are kept. In Rust 
 2,000, and it is timed how long a list takes until it has its plan, of a shape that has been planned or hasn't. So a
 slow second of the machine is in few runs of each. Then come, in the last two ways, four accesses of trees of some 5,000
 and 1,000,000 nodes, whose ways down have as many nodes. The last are `down` and `quota` of bench/hot.py by sixteen
-workers, by its own plans and by `Locks` of Python, in turn and five times.
+workers, by its own plans and by `Locks` of Python and Rust, in turn and five times.
 
-The median is printed, and in brackets the least. bench/library.rs, bench/transactions.rs and bench/hot.rs, compiled
-here by `cargo` and `rustc`, are the parts in Rust; tools/library has to have made the library. Each way has to give the
-same plan.
+The median is printed, and in brackets the least. bench/library.rs, bench/transactions.rs, bench/hot_locks.rs and
+bench/hot.rs, compiled here by `cargo` and `rustc`, are the parts in Rust; tools/library has to have made the library.
+Each way has to give the same plan.
 """
 from __future__ import annotations
 
@@ -37,7 +37,8 @@ import sys
 import tempfile
 import threading
 import time
-from dataclasses import dataclass
+from dataclasses import dataclass, replace
+from functools import partial
 from pathlib import Path
 from random import Random
 from typing import Awaitable, Callable, Union
@@ -71,6 +72,10 @@ path = "{folder}/library.rs"
 [[bin]]
 name = "transactions"
 path = "{folder}/transactions.rs"
+
+[[bin]]
+name = "hot_locks"
+path = "{folder}/hot_locks.rs"
 
 [dependencies]
 pickbracken = {{ path = "{crate}" }}
@@ -134,7 +139,8 @@ def main() -> None:
         for name, times in in_turns(given.grove, max(given.runs // TURNS, 1), made).items():
             tell(name, times)
         tell("four accesses of a larger tree", wide(given.runs) | in_rust(made, given.runs, ""))
-    tell(f"64 jobs of 8 accesses of a millisecond, {HOT_WORKERS} workers", hot_times(given.grove))
+        hot_jobs = hot_times(given.grove, made)
+        tell(f"64 jobs of 8 accesses of a millisecond, {HOT_WORKERS} workers", hot_jobs)
     print(f"load of the machine: {' '.join(f'{load:.1f}' for load in os.getloadavg())}")
 
 
@@ -331,16 +337,19 @@ def first_times(runs: int) -> Times:
     return times
 
 
-def hot_times(grove: str) -> Times:
-    """The seconds of shapes of bench/hot.py, by its plans and by `Locks`."""
+def hot_times(grove: str, made: Path) -> Times:
+    """The seconds of shapes of bench/hot.py, by its plans and by `Locks` in Python and Rust."""
     times: Times = {}
-    cases = [case for name in HOT for case in hot.cases_of(grove, name, ["settled"], in_python=True)]
     with tempfile.TemporaryDirectory(prefix="grove-hot-") as folder:
-        command = [str(hot.built(folder))]
-        for _, case in itertools.product(range(HOT_RUNS), cases):
-            by_locks = case.shape and hot.python_milliseconds(case, case.shape, HOT_WORKERS)
-            seconds = (by_locks or hot.milliseconds(command, case, HOT_WORKERS)) / 1e3
-            times.setdefault(case.name, []).append(seconds)
+        plans, locks, ways = [str(hot.built(folder))], [str(made / "hot_locks")], dict[str, Callable[[], float]]()
+        for name in HOT:
+            shape, (case, python) = hot.SHAPES[name](), hot.cases_of(grove, name, ["settled"], in_python=True)
+            rust = replace(case, name=f"`{name}`, settled, in Rust", text=hot.jobs_for_locks(shape))
+            ways[case.name] = partial(hot.milliseconds, plans, case, HOT_WORKERS)
+            ways[python.name] = partial(hot.python_milliseconds, python, shape, HOT_WORKERS)
+            ways[rust.name] = partial(hot.milliseconds, locks, rust, HOT_WORKERS)
+        for _, (way, milliseconds) in itertools.product(range(HOT_RUNS), ways.items()):
+            times.setdefault(way, []).append(milliseconds() / 1e3)
     return times
 
 
