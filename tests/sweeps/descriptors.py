@@ -17,7 +17,7 @@ from store import Store
 from sweeps.crowds import is_silent
 from sweeps.doors import DOORS, Asking, Door
 from sweeps.preloaded import library_of
-from sweeps.program import Tally, Try
+from sweeps.program import Tally, Try, until_well
 from sweeps.ten_lines import TREE, WEIGHTS
 
 TRIED = "connections of servers that want descriptors"
@@ -50,8 +50,14 @@ def at_most(count: int) -> None:
 
 
 def serve_some(program: str, door: Door, tally: Tally) -> None:
-    """Ten clients come and ask. Those that there are descriptors for are answered; once they leave, so are the
-    others."""
+    """It is tried until the server's calls for connections have their descriptors before the clients come, as they may
+    not on a machine with other work."""
+    until_well(partial(some_served, program, door, tally), "who is answered", tally)
+
+
+def some_served(program: str, door: Door, tally: Tally) -> str | None:
+    """Ten clients come and ask. Those that there are descriptors for are answered; once they leave, so are the others.
+    Gives which one is answered too early."""
     store, served = Store(json.loads(TREE)), door.connections_with(FEW)
     with door.serving(program, preexec_fn=partial(at_most, FEW)) as server, ExitStack() as room:
         clients = [room.enter_context(Asking(door, server.port, WEIGHTS)) for _ in range(CLIENTS)]
@@ -60,7 +66,9 @@ def serve_some(program: str, door: Door, tally: Tally) -> None:
         for number, client in enumerate(clients[:served]):
             client.note_reply(store, f"client {number}", tally)
         for number, client in enumerate(clients[served:], served):
-            tally.note(f"client {number} too early", None if is_silent(client.client) else "it has a reply")
+            if not is_silent(client.client):
+                return f"client {number} has a reply too early"
+            tally.note(f"client {number} waits", None)
         for client in clients[: CLIENTS - served]:
             client.close()
         for number, client in enumerate(clients[served:], served):
@@ -68,6 +76,7 @@ def serve_some(program: str, door: Door, tally: Tally) -> None:
         for number, client in enumerate(clients[CLIENTS - served : served], CLIENTS - served):
             client.ask(store, f"client {number} once more", tally)
         tally.note("the server", None if server.is_running() else "it has ended")
+    return None
 
 
 def serve_nobody(program: str, door: Door, tally: Tally) -> None:
