@@ -138,7 +138,14 @@ class Telling:
         return getattr(self.server, name)
 
     def told(self) -> list[str]:
-        """The events that are told by now, each in the form of text and without its time."""
+        """The events that are told by now, each in the form of text and without its time; but no minutes, one of which
+        may be over at any moment."""
+        return [line for line in self.events() if not line.startswith(MINUTE_BEGINS)]
+
+    def minutes(self) -> list[str]:
+        return [line for line in self.events() if line.startswith(MINUTE_BEGINS)]
+
+    def events(self) -> list[str]:
         return [untimed(line) for line in self.lines()]
 
     def lines(self) -> list[str]:
@@ -720,7 +727,7 @@ def minutes_told(server: Telling, count: int, seconds: float) -> list[str]:
     """The minutes that are logged, once there are so many, or it took too long."""
     ends = time.monotonic() + seconds
     while True:
-        told = [line for line in server.told() if line.startswith(MINUTE_BEGINS)]
+        told = server.minutes()
         if len(told) >= count or time.monotonic() > ends:
             return told
         time.sleep(0.02)
