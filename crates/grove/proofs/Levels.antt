@@ -24,7 +24,8 @@ past_version : (x d : Data) (version : Result Version WireFault) → (version >>
 past_version x d (Ok v) is = cc
 past_version x d (Err fault) is = absurd (cc)
 
-past_object : (x d : Data) (test : Bool) → ((if test then Ok x else Err (Shape (whole_of Whole))) >>= versioned) ≡ Ok d → x ≡ d
+past_object : (x d : Data) (test : Bool)
+    → ((if test then Ok x else Err (Shape (whole_of Whole))) >>= versioned) ≡ Ok d → x ≡ d
 past_object x d true is = past_version x d (version_in x) is
 past_object x d false is = absurd (cc)
 
@@ -33,7 +34,8 @@ past_value : (value : Option Data) (d : Data)
 past_value None d is = absurd (cc)
 past_value (Some x) d is = ap Some (past_object x d (is_some (as_object x)) is)
 
-past_limit : (test : Bool) (d : Data) (rest : Result Data WireFault) → (if test then Err (Limit (whole_of Whole)) else rest) ≡ Ok d → rest ≡ Ok d
+past_limit : (test : Bool) (d : Data) (rest : Result Data WireFault)
+    → (if test then Err (Limit (whole_of Whole)) else rest) ≡ Ok d → rest ≡ Ok d
 past_limit true d rest is = absurd (cc)
 past_limit false d rest is = is
 
@@ -61,7 +63,8 @@ level_text bytes d is =
     subst (λ (x : Data). depth x ≤ 127) (sym same) (omega arith)
 
 -- what a reader gives of them
-pub shallow_document : {T : Type 0} (seen : T → Data) (bytes : List ℕ) (result : Result T WireFault) → Gives seen result (document_of bytes)
+pub shallow_document : {T : Type 0} (seen : T → Data) (bytes : List ℕ) (result : Result T WireFault)
+    → Gives seen result (document_of bytes)
     → IfOk result (λ (x : T). depth (seen x) ≤ 127)
 unfolding document_of
 shallow_document seen bytes (Ok x) gives = level_within 4194304 bytes (seen x) gives
@@ -73,7 +76,8 @@ pub shallow_text : {T : Type 0} (seen : T → Data) (bytes : List ℕ) (result :
 shallow_text seen bytes (Ok x) gives = level_text bytes (seen x) gives
 shallow_text seen bytes (Err fault) gives = tt
 
-pub shallow_history : {T : Type 0} (seen : T → Data) (bytes : List ℕ) (result : Result T WireFault) → Gives seen result (history_of bytes)
+pub shallow_history : {T : Type 0} (seen : T → Data) (bytes : List ℕ) (result : Result T WireFault)
+    → Gives seen result (history_of bytes)
     → IfOk result (λ (x : T). depth (seen x) ≤ 127)
 unfolding history_of
 shallow_history seen bytes (Ok x) gives = level_within 67108864 bytes (seen x) gives

@@ -1,6 +1,7 @@
 -- What is read of a document and printed of an answer.
 use Rattle.std.proofs.Common.{rules, ◌≡◌, ℕ, Bool, ◌+◌, ◌<◌, ◌≤◌, nat_lt, true, refl, List, ◌++◌, length, Option, Some}
-use Rattle.std.proofs.Common.{None, IfSome, IfOk, Result, Ok, Err, string_bytes, ◌⊎◌, OnErr, sym, ap, ◌∙◌, subst, inl, inr}
+use Rattle.std.proofs.Common.{None, IfSome, IfOk, OnErr, Result, Ok, Err, string_bytes}
+use Rattle.std.proofs.Common.{◌⊎◌, sym, ap, ◌∙◌, subst, inl, inr}
 use Rattle.std.proofs.Common.{arith, take, length-append, append-nil}
 use Rattle.std.proofs.lemmas.Bool.{cases_lt, cond-true}
 use Rattle.std.specs.Io.KnownBytes.{Appends, Consumes, IsAtEnd}
@@ -115,7 +116,8 @@ pub all_stopped : {E : Type 0} (May : Outcome → Type 0) (done : ℕ) (answer :
     → OnErr result (IsStopped answer fails old new)
     → OnErr result (IsSaid May done old new fails 3)
 all_stopped May done answer tells (Ok status) old new fails stopped = tt
-all_stopped May done answer tells (Err why) old new fails stopped = is_stopped May done answer tells old new fails stopped
+all_stopped May done answer tells (Err why) old new fails stopped =
+    is_stopped May done answer tells old new fails stopped
 
 -- what is said of the bytes that were read is said of the document
 pub tells_of : (command : Command) (document : Document) (known : Option (List ℕ)) (bytes : List ℕ) (answer : Answer)

@@ -1,5 +1,6 @@
 -- What a command that serves says.
-use Rattle.std.proofs.Common.{◌≡◌, ◌++◌, ℕ, ℤ, List, Result, Ok, Err, Some, IfOk, refl, subst, sym, arith, string_bytes, IsSome}
+use Rattle.std.proofs.Common.{◌≡◌, ◌++◌, ℕ, ℤ, List, Result, Ok, Err, Some, IfOk, IsSome, string_bytes}
+use Rattle.std.proofs.Common.{refl, subst, sym, arith}
 use Rattle.std.specs.Prelude.{codes, decimal, is_ok, true}
 use Rattle.grove_tree.specs.Trees.{Rows}
 use Rattle.grove_wire.specs.declared.fault.WireFault.{WireFault}
@@ -47,7 +48,8 @@ tells_served serving found (Listen line service) has file (stays, says) =
 
 -- ---- results
 
-pub serves_listening : {E : Type 0} (serving : Serving) (result : Result Answer E) → IfOk result (IsListening serving.place)
+pub serves_listening : {E : Type 0} (serving : Serving) (result : Result Answer E)
+    → IfOk result (IsListening serving.place)
     → (found : Result (Rows × List ℤ) WireFault) → is_ok found ≡ true
     → IfOk result (Tells (ThenSays found (IsServed serving)) 3)
 serves_listening serving (Ok answer) listens found has = tells_place serving found answer has listens

@@ -44,7 +44,7 @@ SaysTable adds_parents document (Ok lines) =
     (text : List ℕ) × (document ≡ string text) × IsMade (absent_for adds_parents) text lines
 SaysTable adds_parents document (Err fault) = Unit {0}
 
--- ---- serve and page: the lines of the place that is listened at; or that the file of rounds is refused, if there is one
+-- ---- serve and page: the lines of the place that is listened at; or that the file of rounds, if any, is refused
 
 abbrev pub IsResumed : Place → Outcome → Type 0
 IsResumed place (Ok lines) = NamesPlace place lines

@@ -19,7 +19,8 @@ pub fn print<R: Host + Net<Listener = TcpListener, Stream = TcpStream>, O: Sink>
 ) -> Result<u8, Stop>
     ensures printed { IfOk result (λ status. (status ≡ status_of answer.entry)
         × Appends (O.contents out.old) (O.contents out.new) (printed answer.entry)) }
-    ensures stopped { OnErr result (IsStopped answer.entry (O.has_failed out.new) (O.contents out.old) (O.contents out.new)) }
+    ensures stopped { OnErr result
+        (IsStopped answer.entry (O.has_failed out.new) (O.contents out.old) (O.contents out.new)) }
     ensures few { IfOk result (λ status. status ≤ 1) }
 {
     match answer {

@@ -1,4 +1,5 @@
-ghost use Rattle.std.specs.Prelude.{◌≡◌, ◌≤◌, ℤ, List, Result, Ok, true, is_ok, IfOk, IfErr, IfSome, OnOk, string_bytes};
+ghost use Rattle.std.specs.Prelude.{◌≡◌, ◌≤◌, ℤ, List, Result, Ok, true, is_ok, string_bytes};
+ghost use Rattle.std.specs.Prelude.{IfOk, IfErr, IfSome, OnOk};
 ghost use Rattle.serde_json.specs.View.{view};
 ghost use Rattle.grove_tree.specs.Trees.{Rows};
 ghost use Rattle.grove_wire.specs.Reading.{tree_in};
@@ -15,7 +16,7 @@ use crate::answering::{data_refused, refused};
 use crate::data_opening::{Keeping, NoData, ServedStore, in_file, in_memory};
 use crate::failure::Failure;
 use grove_answer::{Refusal, or_refuse};
-use grove_serve::{Door, Host, LogForm, Manner, MemoryFile, Patience, Service, SyncEach, Talk};
+use grove_serve::{Door, Host, Manner, MemoryFile, Service, Talk};
 use grove_store::{NoStore, Store};
 use grove_wire::read_tree;
 use grove_words::{Place, Port, Serving, Workers};
@@ -105,7 +106,7 @@ fn listen<'d, R: Host + Files<File = File> + Net<Listener = TcpListener, Stream 
     let service = Service {
         kept,
         counts,
-        sync: sync_of(serving.sync),
+        sync: serving.sync,
         door,
         http,
         manner,
@@ -125,11 +126,8 @@ fn manner_of<R: Files<File = File>>(
         hosts.push(String::from_str(alloc, host)?)?;
     }
     Ok(Manner {
-        patience: Patience {
-            idle: serving.patience.idle,
-            tells_busy: serving.patience.tells_busy,
-        },
-        log: serving.log.map(form_of_log),
+        patience: serving.patience,
+        log: serving.log,
         hosts,
         hints: serving.hints,
         memory: memory_for(rt, serving.place, talk),
@@ -142,20 +140,6 @@ fn memory_for<R: Files<File = File>>(rt: &R, place: Place, talk: Talk) -> Option
     match (talk, place.http) {
         (Talk::Lines, None) => None,
         (Talk::Requests, _) | (Talk::Lines, Some(_)) => MemoryFile::open(rt),
-    }
-}
-
-fn form_of_log(form: grove_words::LogForm) -> LogForm {
-    match form {
-        grove_words::LogForm::Text => LogForm::Text,
-        grove_words::LogForm::Json => LogForm::Json,
-    }
-}
-
-fn sync_of(sync: grove_words::SyncEach) -> SyncEach {
-    match sync {
-        grove_words::SyncEach::Round => SyncEach::Round,
-        grove_words::SyncEach::Second => SyncEach::Second,
     }
 }
 

@@ -1,7 +1,7 @@
 use crate::event::Event;
 use crate::fields::Fields;
-use crate::service::LogForm;
 use grove_gauge::Minute;
+use grove_words::LogForm;
 use jiff::Timestamp;
 use std::fmt;
 

@@ -1,5 +1,5 @@
-use crate::service::LogForm;
 use grove_gauge::Seconds;
+use grove_words::LogForm;
 use jiff::Timestamp;
 use std::fmt;
 use std::net::SocketAddr;

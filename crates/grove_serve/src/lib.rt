@@ -6,7 +6,7 @@ pub use connections::serve;
 pub use file_counts::FileCounts;
 pub use host::Host;
 pub use memory_file::MemoryFile;
-pub use service::{Door, KeptStore, LogForm, Manner, Patience, Service, SyncEach, Talk};
+pub use service::{Door, KeptStore, Manner, Service, Talk};
 
 mod busy;
 mod closing;

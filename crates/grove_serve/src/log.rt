@@ -1,7 +1,7 @@
 use crate::event::Event;
 use crate::event_line::EventLine;
 use crate::remedy::Lack;
-use crate::service::LogForm;
+use grove_words::LogForm;
 use jiff::Timestamp;
 use std::sync::atomic::{AtomicBool, AtomicU64, Ordering};
 use std::sync::{Condvar, Mutex, Wait};

@@ -1,6 +1,7 @@
 use crate::file_counts::FileCounts;
 use crate::memory_file::MemoryFile;
 use grove_store::{Keeper, Store};
+use grove_words::{LogForm, Patience, SyncEach};
 use std::marker::Model;
 use std::net::TcpListener;
 use std::sync::Arc;
@@ -28,20 +29,12 @@ pub struct Service<K: Keeper> {
     pub kept: KeptStore<K>,
     /// What the keeper counts, if it may fail.
     pub counts: Option<Arc<FileCounts>>,
+    /// How often what rounds left is kept.
     pub sync: SyncEach,
     pub door: Door,
     /// Where the same store is served over HTTP beside that, if anywhere.
     pub http: Option<Door>,
     pub manner: Manner,
-}
-
-/// How often what rounds left is kept.
-#[derive(Clone, Copy)]
-pub enum SyncEach {
-    /// At each round, before its lines have replies.
-    Round,
-    /// Each second, whatever was replied meanwhile. A crash may lose that.
-    Second,
 }
 
 /// A port that is listened on.
@@ -56,6 +49,7 @@ pub struct Door {
 /// How a store is served.
 #[derive(Drop)]
 pub struct Manner {
+    /// Over HTTP a whole request counts as a whole line.
     pub patience: Patience,
     /// The form of what standard error is told of connections and refusals, if it is told.
     pub log: Option<LogForm>,
@@ -65,15 +59,6 @@ pub struct Manner {
     pub hints: bool,
     /// Where the system says how much memory the server has, if anybody may ask for that.
     pub memory: Option<MemoryFile>,
-}
-
-/// The form of a log's lines.
-#[derive(Clone, Copy)]
-pub enum LogForm {
-    /// Names and values, each pair apart by a blank.
-    Text,
-    /// The same as an object of JSON.
-    Json,
 }
 
 /// What is talked over a connection.
@@ -93,13 +78,4 @@ impl Talk {
             Talk::Requests => "http",
         }
     }
-}
-
-/// What is done with connections that idle, and with those that find no slot.
-#[derive(Clone, Copy)]
-pub struct Patience {
-    /// After how many seconds without a whole line, or a whole request, a connection is ended; without it, never.
-    pub idle: Option<u32>,
-    /// Whether a connection that finds no slot is told so and closed; else it waits.
-    pub tells_busy: bool,
 }
