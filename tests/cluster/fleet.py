@@ -4,7 +4,7 @@ from functools import partial
 from pathlib import Path
 from subprocess import Popen
 
-from store_at_hand import LEASHED, SECONDS, await_true, moved
+from store_at_hand import SECONDS, UNANSWERED, await_true, moved
 
 from grove_etcd.jobs import Progress, UnderWay
 from grove_etcd.keys import Keys, last_part
@@ -22,8 +22,8 @@ class Started:
 
 
 class Fleet:
-    """Each worker that its leash has killed is started again, as a service manager would. So a machine that is slow, or
-    that elects a leader for long, ends none for good."""
+    """Each worker that its leash has killed, or that no member has answered, is started again, as a service manager
+    would. So a machine that is slow, or that elects a leader for long, ends none for good."""
 
     def __init__(self, cluster, programs, words):
         self.cluster, self.programs, self.words = cluster, programs, [*words, "--verbose"]
@@ -60,10 +60,10 @@ class Fleet:
         return all(worker.process.poll() is not None for worker in self.workers)
 
     def start_again(self):
-        killed = [worker for worker in self.workers if worker.process.poll() == LEASHED]
-        self.workers = [worker for worker in self.workers if worker not in killed]
-        self.gone += killed
-        self.start(len(killed))
+        ended = [worker for worker in self.workers if worker.process.poll() in UNANSWERED]
+        self.workers = [worker for worker in self.workers if worker not in ended]
+        self.gone += ended
+        self.start(len(ended))
 
     def told(self):
         """The jobs that haven't ended, who goes on with each, what it holds and where it waits; which workers give

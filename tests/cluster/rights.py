@@ -6,7 +6,7 @@ from functools import partial
 from etcd3 import etcdrpc
 from etcd3.etcdrpc.auth_pb2 import Permission
 from members_at_hand import SecretCluster
-from store_at_hand import BOTH, SECONDS, SMALL, Programs, in_time, untimely_if_leashed
+from store_at_hand import BOTH, SECONDS, SMALL, Programs, in_time, untimely_if_unanswered
 
 from grove_etcd.keys import Keys
 from grove_etcd.members import Members
@@ -34,7 +34,7 @@ def few_rights_do(grove, _number):
         words = [*worker, "--slot", "5", "--until-ended"]
         started = [programs.start("work", *words) for _ in range(3)]
         statuses = [each.wait(SECONDS) for each in started]
-        untimely_if_leashed(statuses)
+        untimely_if_unanswered(statuses)
         programs.lines("submit", *root, "--grove", grove, file)
         programs.lines("work", *worker, "--until-ended")
         lines = programs.lines("audit", *root, "--grove", grove)

@@ -16,7 +16,7 @@ from store_at_hand import (
     in_time,
     one_group,
     refusal,
-    untimely_if_leashed,
+    untimely_if_unanswered,
 )
 from working import Counted
 
@@ -183,7 +183,7 @@ def fault_of_work(cluster, grove, function, wanted, number):
         worker = counted.start(function, "--tries", "2", "--patience", "1", "--until-ended", stderr=subprocess.PIPE)
         errors = worker.communicate(timeout=SECONDS)[1]
         ends.append(worker.returncode)
-    untimely_if_leashed(ends)
+    untimely_if_unanswered(ends)
     told = dict(failed(store.members, store.keys)).get(store.jobs[0])
     is_short = max(map(len, errors.splitlines()), default=0) < 5000
     if not (told and told.why.startswith(wanted) and len(told.why) <= 4096 and told.holds == ["/a"] and is_short):

@@ -35,20 +35,20 @@ SMALL = [
 # Its plan locks /, /a and /b and lets / go before the first access, since / is heavy: by slots, that is the first
 # group.
 BOTH = [["add", "/a", 1], ["add", "/b", 1]]
-
-
-# How a worker ends that its leash has killed.
+# How a worker ends that its leash has killed; and how whoever had no answer in time ends: such a worker, and a program
+# that no member has answered for a minute.
 LEASHED = -signal.SIGKILL
+UNANSWERED = {LEASHED, 3}
 
 
 class Untimely(Exception):
     """Nothing is wrong, but things didn't come about at the times at which they had to: so nothing was shown."""
 
 
-def untimely_if_leashed(statuses):
-    """A worker that its leash has killed had no processor, or no answer from etcd, for as long as others wait."""
-    if LEASHED in statuses:
-        raise Untimely(f"workers ended with {statuses}")
+def untimely_if_unanswered(statuses):
+    """Whoever had no processor, or no answer from etcd, for as long as it, or others, may wait."""
+    if UNANSWERED.intersection(statuses):
+        raise Untimely(f"programs ended with {statuses}")
 
 
 def in_time(trial):
@@ -168,9 +168,9 @@ class Programs:
     def lines(self, name, *words):
         """What it prints that isn't said on standard error."""
         ran = self.ran(name, *words)
-        untimely_if_leashed([ran.returncode])
         if ran.returncode:
-            raise RuntimeError(f"{name} ended with status {ran.returncode}: {ran.stdout}{ran.stderr}")
+            how = Untimely if ran.returncode in UNANSWERED else RuntimeError
+            raise how(f"{name} ended with status {ran.returncode}: {ran.stdout}{ran.stderr}")
         return ran.stdout.splitlines()
 
     def status(self):

@@ -11,7 +11,7 @@ from pathlib import Path
 
 from members_at_hand import TOP
 from server import HOST, free_port
-from store_at_hand import SECONDS, Programs, Store, Untimely, await_true, in_time, one_group, untimely_if_leashed
+from store_at_hand import SECONDS, Programs, Store, Untimely, await_true, in_time, one_group, untimely_if_unanswered
 
 from grove_etcd.worker import Worker
 
@@ -96,7 +96,7 @@ def work_again(cluster, grove, number):
 
 
 def fault_of(statuses):
-    untimely_if_leashed(statuses)
+    untimely_if_unanswered(statuses)
     return f"statuses {statuses}" if any(statuses) else None
 
 
@@ -149,13 +149,13 @@ def work_that_fails_sets_its_job_aside(cluster, grove):
     aside, other = counted.store.jobs
     worker = counted.start("fail_at_a", "--tries", "3", "--until-ended", stderr=subprocess.PIPE)
     errors = worker.communicate(timeout=SECONDS)[1]
-    untimely_if_leashed([worker.returncode])
+    untimely_if_unanswered([worker.returncode])
     told = counted.programs.lines("status", "--failed")
     tries = Counter(token for token, _ in counted.tries())
     early = counted.programs.run("retry", other)
     (counted.room / "broken").unlink()
     again = counted.programs.lines("retry")
-    untimely_if_leashed([counted.start("fail_at_a", "--until-ended").wait(SECONDS)])
+    untimely_if_unanswered([counted.start("fail_at_a", "--until-ended").wait(SECONDS)])
     counted.store.audit()
     came = worker.returncode, told[-1], tries[f"{aside}/0"], early, again, counted.store.records("/a", "/b")
     failed = f"failed {aside}: RuntimeError: the machine is broken; it holds /a"
@@ -184,7 +184,7 @@ def ends_after_its_group(cluster, grove, number):
     statuses = worker.returncode, another.wait(SECONDS)
     if 'grove_worker_events_total{event="work"} 1' not in metrics[0] or metrics[1] != "not found\n":
         raise Untimely(f"its counts were {metrics}")
-    untimely_if_leashed(statuses)
+    untimely_if_unanswered(statuses)
     if statuses != (0, 0) or f"left job={counted.store.jobs[0]}" not in errors or "stopped" not in errors:
         return f"statuses {statuses}, {errors}"
     return counted.fault(2)
