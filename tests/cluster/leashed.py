@@ -64,15 +64,17 @@ def no_work_goes_on_unheld(way, cluster, grove):
 
 
 def fault_of_both(way, cluster, grove, number):
-    """With a leash the worker is killed; without it goes on, and its node isn't held."""
+    """With a leash the worker is killed; without it goes on, and its node isn't held, if others come to it meanwhile.
+    Each try gives them twice as long."""
+    seconds = LOOSE_WORK * 2**number
     leashed = Counted(cluster, grove, f"{way.__name__}-{number}".replace("_", "-"), [AT_A], WORK)
     fault = fault_of_killed(leashed, *way(cluster, leashed))
     if fault:
         return fault
-    loose = Counted(cluster, grove, f"loose-{way.__name__}-{number}".replace("_", "-"), [AT_A], LOOSE_WORK)
+    loose = Counted(cluster, grove, f"loose-{way.__name__}-{number}".replace("_", "-"), [AT_A], seconds)
     loose.environment["COUNTED_UNLEASHED"] = "yes"
     worker, statuses = way(cluster, loose)
-    is_seen = await_true(partial(is_unheld, loose), LOOSE_WORK)
+    is_seen = await_true(partial(is_unheld, loose), seconds)
     worker.kill()
     worker.wait()
     if not is_seen:
