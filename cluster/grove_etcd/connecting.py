@@ -1,6 +1,7 @@
 """Connections to members by gRPC, which is loaded with the first of them."""
 from __future__ import annotations
 
+import os
 import sys
 from dataclasses import dataclass
 from typing import Any
@@ -17,12 +18,16 @@ OPTIONS = [
     # So a connection that hangs, as one made while a member starts, isn't shared with other clients.
     ("grpc.use_local_subchannel_pool", 1),
 ]
+# While nobody calls, gRPC goes on with a connection each so many milliseconds, at each of its steps. By itself it does so
+# each five seconds, and has none for a minute after all members were away.
+BACKUP_POLL, POLL_MILLISECONDS = "GRPC_CLIENT_CHANNEL_BACKUP_POLL_INTERVAL_MS", "200"
 # What a program says of packages that aren't there, or that don't go together.
 LACKS = "needs the Python packages grpcio and protobuf"
 
 
 def loaded() -> Any:
     """gRPC. No program uses it from tasks of an event loop, and to load what that needs takes half as long again."""
+    os.environ.setdefault(BACKUP_POLL, POLL_MILLISECONDS)
     try:
         with later("asyncio", "grpc.aio"):
             import grpc

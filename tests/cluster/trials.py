@@ -114,6 +114,7 @@ from submitted import (
 )
 from tree import Tree
 from unanswered import (
+    members_that_were_all_away_are_found_again,
     what_is_begun_without_an_answer_is_gone_on_with,
     what_is_left_without_an_answer_is_taken_up,
     what_names_a_worker_is_gone_on_with_by_it,
@@ -433,6 +434,7 @@ TRIALS = [
     a_worker_that_is_told_to_end_ends_after_its_group,
     a_commit_without_an_answer_is_done_once,
     what_is_left_without_an_answer_is_taken_up,
+    members_that_were_all_away_are_found_again,
     what_is_begun_without_an_answer_is_gone_on_with,
     what_names_a_worker_is_gone_on_with_by_it,
     two_workers_at_one_job_do_it_once,

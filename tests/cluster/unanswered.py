@@ -1,23 +1,27 @@
-"""Trials of transactions without an answer, which were made or not: a job that names a worker ends, although the worker
-gives signs of life for others."""
+"""Trials of what brings no answer. A transaction was made or not: a job that names a worker ends, although the worker
+gives signs of life for others. And members that were all away are found again."""
+import json
 import threading
 import time
 from unittest import mock
 
 import grpc
+from members_at_hand import Cluster
 from parked import put_all, started
-from store_at_hand import Store, Untimely, await_true, in_time, one_group
+from store_at_hand import SECONDS, SMALL, Programs, Store, Untimely, await_true, in_time, one_group
 
 from grove_etcd.jobs import UnderWay
 from grove_etcd.members import Members
 from grove_etcd.wire import putting
 from grove_etcd.worker import Worker
 
-# How long a worker's own jobs may take to end, and how patient it is: so no job is taken up since it gave no sign.
-SECONDS, PATIENCE = 120.0, 600.0
+# How patient a worker is whose own jobs have to end before: so no job is taken up since it gave no sign.
+PATIENCE = 5 * SECONDS
 # The same for one that looks for other jobs after each that takes longer.
 SHORT = 1.0
 LEFT = b'"by":""'
+# For how long all members are away, and how soon they are found once they are back.
+AWAY_SECONDS, FOUND_SECONDS = 2.0, 20.0
 
 
 class NoAnswer(grpc.RpcError):
@@ -53,7 +57,7 @@ class Mute(Members):
 
 def end_of(store, worker, thread, records):
     """What is wrong at the end of a worker that has to do all jobs by itself."""
-    is_done = await_true(lambda: not thread.is_alive(), SECONDS)
+    is_done = await_true(lambda: not thread.is_alive())
     left = store.left("quv")
     worker.stop()
     thread.join()
@@ -142,3 +146,26 @@ def what_names_a_worker_is_gone_on_with_by_it(cluster, grove):
     named = UnderWay(worker.means.name, patience=PATIENCE)
     store.write(putting(store.keys.under_way(store.jobs[0]), named.text()))
     return end_of(store, worker, thread, [13, 0])
+
+
+def members_that_were_all_away_are_found_again(_cluster, _grove):
+    """By a program that calls them meanwhile, and soon after they are back."""
+    return in_time(found_again)
+
+
+def found_again(_number):
+    with Cluster(3) as cluster:
+        programs = Programs(cluster, "away")
+        file = programs.file("small.json", json.dumps({"nodes": SMALL}))
+        for member in range(3):
+            cluster.kill(member)
+        loads = programs.start("load", file)
+        time.sleep(AWAY_SECONDS)
+        for member in range(3):
+            cluster.start(member)
+        begun = time.monotonic()
+        status = loads.wait(SECONDS)
+        seconds = time.monotonic() - begun
+    if seconds > FOUND_SECONDS:
+        raise Untimely(f"it ended {seconds:.0f} s after they were back, with status {status}")
+    return None if status == 0 else f"it ended with status {status}"
