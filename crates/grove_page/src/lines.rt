@@ -3,7 +3,7 @@ ghost use Rattle.grove_wire.specs.Documents.{document_text};
 ghost use Rattle.grove_page.specs.NodeLines.{IsWithin, line_of_nodes};
 
 use crate::Paths;
-use crate::nodes::{Part, line_of_nodes};
+use crate::nodes::{Listing, Part};
 use grove_store::Store;
 use grove_tree::NoMemory;
 use grove_wire::document_text;
@@ -29,13 +29,5 @@ pub(crate) fn nodes_line(
     ensures { IfOk result (λ line. line.items
         ≡ line_of_nodes store.now.rows store.now.records store.now.waits store.now.rounds part.now) }
 {
-    line_of_nodes(
-        alloc,
-        store.tree(),
-        store.records(),
-        store.waits(),
-        store.rounds(),
-        paths,
-        part,
-    )
+    Listing::new(store, paths).line(alloc, part)
 }

@@ -1,5 +1,4 @@
 ghost use Rattle.std.specs.Prelude.{◌≡◌, ◌<◌, ◌++◌, false, IfOk, IfSome, OnOk, length};
-ghost use Rattle.std.specs.Option.{ForSome};
 ghost use Rattle.serde_json.specs.Written.{compact_text, comma_if};
 ghost use Rattle.grove_base.specs.Numbers.{passing_below};
 ghost use Rattle.grove_tree.specs.Weights.{unweighed};
@@ -9,10 +8,11 @@ ghost use Rattle.grove_page.specs.NodeTexts.{entries_text, entry_start, entry_en
 
 use crate::paths::{Paths, start_of};
 use crate::query::NodesQuery;
-use grove_access::Records;
+use grove_store::Store;
 use grove_tree::{NoMemory, Node, Tree};
 use itoa::{Buffer, Integer};
 use std::alloc::{AllocError, Global};
+use std::marker::Model;
 
 /// Which nodes are told of.
 #[derive(Clone, Copy, Debug)]
@@ -37,36 +37,96 @@ pub(crate) fn part_for(tree: &Tree, asked: &NodesQuery) -> Option<Part>
 /// About how many bytes a node takes.
 const NODE_BYTES: usize = 112;
 
-/// What there is of the nodes, on a line. Their paths are taken from those given, if these are the tree's.
-pub(crate) fn line_of_nodes(
-    alloc: Global,
-    tree: &Tree,
-    records: &Records,
-    waits: &[u32],
-    round: u64,
-    paths: Option<&Paths>,
-    part: &Part,
-) -> Result<Vec<u8>, NoMemory>
-    requires records { length records.now ≡ length tree.now }
-    requires waits { length waits.now ≡ length tree.now }
-    requires part { IsWithin tree.now part.now }
-    ensures { IfOk result (λ line. line.items ≡ line_of_nodes tree.now records.now waits.now round part.now) }
-{
-    let mut line = Vec::with_capacity(alloc, NODE_BYTES * tree.len() as usize)?;
-    line.extend_from_slice(b"{\"nodes\":[")?;
-    write_nodes(
-        &mut line,
-        alloc,
-        tree,
-        records,
-        waits,
-        paths_for(tree, paths),
-        part,
-    )?;
-    line.extend_from_slice(b"],\"round\":")?;
-    write_number(&mut line, round)?;
-    line.extend_from_slice(b"}\n")?;
-    Ok(line)
+/// The nodes of a store, and their paths if these are known.
+#[derive(Drop)]
+pub(crate) struct Listing<'a> {
+    store: &'a Store,
+    paths: Option<&'a Paths>,
+}
+
+impl<'a> Model for Listing<'a> {
+    ghost use Rattle.std.specs.Prelude.{◌≡◌};
+    ghost use Rattle.std.specs.Option.{ForSome};
+    ghost use Rattle.grove_tree.specs.Weights.{unweighed};
+    ghost use Rattle.grove_store.specs.StoreStates.{StoreState};
+
+    ghost Value = { StoreState };
+
+    ghost view = { λ listing. listing.store.now };
+
+    ghost invariant = { λ listing. ForSome listing.paths
+        (λ paths. unweighed paths.now ≡ unweighed listing.store.now.rows) };
+}
+
+impl<'a> Listing<'a> {
+    /// Paths are taken from those given, if these are the tree's.
+    pub fn new(store: &'a Store, paths: Option<&'a Paths>) -> Listing<'a>
+        ensures { result ≡ store.now }
+    {
+        Listing {
+            store,
+            paths: paths_for(store.tree(), paths),
+        }
+    }
+
+    /// What there is of the nodes of a part, on a line.
+    pub fn line(&self, alloc: Global, part: &Part) -> Result<Vec<u8>, NoMemory>
+        requires { IsWithin self.now.rows part.now }
+        ensures { IfOk result (λ line. line.items
+            ≡ line_of_nodes self.now.rows self.now.records self.now.waits self.now.rounds part.now) }
+    {
+        let nodes = self.store.tree().len() as usize;
+        let mut line = Vec::with_capacity(alloc, NODE_BYTES * nodes)?;
+        line.extend_from_slice(b"{\"nodes\":[")?;
+        self.write_nodes(&mut line, alloc, part)?;
+        line.extend_from_slice(b"],\"round\":")?;
+        write_number(&mut line, self.store.rounds())?;
+        line.extend_from_slice(b"}\n")?;
+        Ok(line)
+    }
+
+    fn write_nodes(&self, line: &mut Vec<u8>, alloc: Global, part: &Part) -> Result<(), NoMemory>
+        requires { IsWithin self.now.rows part.now }
+        ensures { OnOk result (line.new.items
+            ≡ line.old.items ++ entries_text self.now.rows self.now.records self.now.waits false
+            (passing_below (length self.now.rows) (is_told self.now.rows part.now))) }
+    {
+        let tree = self.store.tree();
+        let mut later = false;
+        for number in 0..tree.len() {
+            let node = Node::new(number);
+            if is_told(tree, part, node) {
+                write_comma(line, later)?;
+                self.write_node(line, alloc, node)?;
+                later = true;
+            }
+        }
+        Ok(())
+    }
+
+    fn write_node(&self, line: &mut Vec<u8>, alloc: Global, node: Node) -> Result<(), NoMemory>
+        requires { node < length self.now.rows }
+        ensures { OnOk result (line.new.items
+            ≡ line.old.items ++ compact_text (node_data self.now.rows self.now.records self.now.waits node)) }
+    {
+        self.write_start(line, alloc, node)?;
+        let weight = u64::from(self.store.tree().weight(node));
+        let value = self.store.records().get(node);
+        let waited = u64::from(self.store.waits()[node.number() as usize]);
+        Ok(write_end(line, value, waited, weight)?)
+    }
+
+    /// What the node's entry begins with.
+    fn write_start(&self, line: &mut Vec<u8>, alloc: Global, node: Node) -> Result<(), NoMemory>
+        requires { node < length self.now.rows }
+        ensures { OnOk result (line.new.items ≡ line.old.items ++ entry_start self.now.rows node) }
+    {
+        match self.paths {
+            Some(paths) => line.extend_from_slice(paths.start(node))?,
+            None => line.extend_from_slice(&start_of(alloc, self.store.tree(), node)?)?,
+        }
+        Ok(())
+    }
 }
 
 /// The paths, if they are those of the tree's nodes.
@@ -79,35 +139,6 @@ fn paths_for<'a>(tree: &Tree, paths: Option<&'a Paths>) -> Option<&'a Paths>
     } else {
         None
     }
-}
-
-fn write_nodes(
-    line: &mut Vec<u8>,
-    alloc: Global,
-    tree: &Tree,
-    records: &Records,
-    waits: &[u32],
-    paths: Option<&Paths>,
-    part: &Part,
-) -> Result<(), NoMemory>
-    requires records { length records.now ≡ length tree.now }
-    requires waits { length waits.now ≡ length tree.now }
-    requires paths { ForSome paths (λ paths. unweighed paths.now ≡ unweighed tree.now) }
-    requires part { IsWithin tree.now part.now }
-    ensures { OnOk result (line.new.items
-        ≡ line.old.items ++ entries_text tree.now records.now waits.now false
-        (passing_below (length tree.now) (is_told tree.now part.now))) }
-{
-    let mut later = false;
-    for number in 0..tree.len() {
-        let node = Node::new(number);
-        if is_told(tree, part, node) {
-            write_comma(line, later)?;
-            write_node(line, alloc, tree, records, waits, paths, node)?;
-            later = true;
-        }
-    }
-    Ok(())
 }
 
 /// The comma before an entry, if it is a later one.
@@ -133,48 +164,6 @@ fn is_told(tree: &Tree, part: &Part, node: Node) -> bool
         }
         Part::Whole => true,
     }
-}
-
-fn write_node(
-    line: &mut Vec<u8>,
-    alloc: Global,
-    tree: &Tree,
-    records: &Records,
-    waits: &[u32],
-    paths: Option<&Paths>,
-    node: Node,
-) -> Result<(), NoMemory>
-    requires node { node < length tree.now }
-    requires record { node < length records.now }
-    requires waits { node < length waits.now }
-    requires paths { ForSome paths (λ paths. unweighed paths.now ≡ unweighed tree.now) }
-    ensures { OnOk result (line.new.items
-        ≡ line.old.items ++ compact_text (node_data tree.now records.now waits.now node)) }
-{
-    write_start(line, alloc, tree, paths, node)?;
-    let value = records.get(node);
-    let waited = u64::from(waits[node.number() as usize]);
-    let weight = u64::from(tree.weight(node));
-    Ok(write_end(line, value, waited, weight)?)
-}
-
-/// What the node's entry begins with.
-fn write_start(
-    line: &mut Vec<u8>,
-    alloc: Global,
-    tree: &Tree,
-    paths: Option<&Paths>,
-    node: Node,
-) -> Result<(), NoMemory>
-    requires node { node < length tree.now }
-    requires paths { ForSome paths (λ paths. unweighed paths.now ≡ unweighed tree.now) }
-    ensures { OnOk result (line.new.items ≡ line.old.items ++ entry_start tree.now node) }
-{
-    match paths {
-        Some(paths) => line.extend_from_slice(paths.start(node))?,
-        None => line.extend_from_slice(&start_of(alloc, tree, node)?)?,
-    }
-    Ok(())
 }
 
 /// What an entry goes on with behind its path.
