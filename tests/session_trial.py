@@ -20,6 +20,8 @@ def faults_of_case(program, case):
         return faults_of_session(program, case)
     with socket.socket() as listener:
         if case.is_port_taken:
+            # (As `free_port` does, which takes no notice of connections that have just ended there.)
+            listener.setsockopt(socket.SOL_SOCKET, socket.SO_REUSEADDR, 1)
             listener.bind((HOST, port))
             listener.listen()
         return faults_of_run(program, case)
