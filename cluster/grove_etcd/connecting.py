@@ -18,8 +18,8 @@ OPTIONS = [
     # So a connection that hangs, as one made while a member starts, isn't shared with other clients.
     ("grpc.use_local_subchannel_pool", 1),
 ]
-# While nobody calls, gRPC goes on with a connection each so many milliseconds, at each of its steps. By itself it does so
-# each five seconds, and has none for a minute after all members were away.
+# While nobody calls, gRPC takes the next step of a connection each so many milliseconds. By itself it does so each five
+# seconds, and has no connection for most of a minute after all members were away.
 BACKUP_POLL, POLL_MILLISECONDS = "GRPC_CLIENT_CHANNEL_BACKUP_POLL_INTERVAL_MS", "200"
 # What a program says of packages that aren't there, or that don't go together.
 LACKS = "needs the Python packages grpcio and protobuf"
