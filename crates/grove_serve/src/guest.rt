@@ -5,11 +5,14 @@ use crate::log::Log;
 use crate::service::Talk;
 use crate::slots::Slots;
 use grove_base::Hint;
-use std::alloc::AllocGlobal;
+use grove_desk::{Receipt, RoundWatch};
+use grove_page::{LineWatch, hint_of_refusal};
+use grove_store::Refusal;
+use std::alloc::{AllocGlobal, Global};
 use std::cell::Cell;
 use std::net::TcpStream;
 use std::sync::Wait;
-use std::time::Clock;
+use std::time::{Clock, Instant};
 
 /// What is logged beside a refusal that is about no part of its line.
 const LONG_LINE: &str =
@@ -74,32 +77,24 @@ impl<'a> Guest<'a> {
         CountedStream::new(stream, &traffic.bytes_sent)
     }
 
-    /// Counts a line that was answered.
-    pub fn count_line(&self) {
-        self.lines.set(self.lines.get().saturating_add(1));
-        self.slots.metrics().lines.count_one();
-    }
-
     /// Counts and logs that the line after those which are answered is refused by this name, with its hint if there is
     /// one.
-    pub fn note_refusal<R: Wait + Clock + Eprint + AllocGlobal>(
+    fn note_refused<R: Wait + Clock + Eprint>(
         &self,
         rt: &R,
         name: &'static str,
-        hint: Option<&Hint>,
+        hint: Option<&str>,
     ) {
         self.slots.metrics().count_refusal(rt, name);
         if let Some(log) = self.slots.log() {
-            self.log_refusal(rt, log, name, hint.map(|hint| unlabelled(hint.as_str())));
+            self.log_refusal(rt, log, name, hint);
         }
     }
 
-    /// Counts and logs that the line after those which are answered is too long.
-    pub fn note_long_line<R: Wait + Clock + Eprint + AllocGlobal>(&self, rt: &R) {
-        self.slots.metrics().count_refusal(rt, "long-line");
-        if let Some(log) = self.slots.log() {
-            self.log_refusal(rt, log, "long-line", Some(LONG_LINE));
-        }
+    /// The hint for a refused line that goes to the log alone, if there is one, and memory for the hint.
+    fn logged_hint(&self, alloc: Global, line: &[u8], refusal: &Refusal) -> Option<Hint> {
+        let _log = self.slots.log()?;
+        hint_of_refusal(alloc, self.slots.tree(), line, refusal).ok()
     }
 
     fn log_refusal<R: Wait + Clock + Eprint>(
@@ -131,6 +126,43 @@ impl<'a> Guest<'a> {
             };
             log.write(rt, event);
         }
+    }
+}
+
+impl<'a, R: Clock> RoundWatch<R> for Guest<'a> {
+    fn begin(&self, rt: &R) -> Option<Instant> {
+        self.slots.metrics().begin(rt)
+    }
+
+    fn end(&self, rt: &R, began: Option<Instant>, receipts: &[Receipt]) {
+        self.slots.metrics().end(rt, began, receipts);
+    }
+}
+
+impl<'a, R: Wait + Clock + Eprint + AllocGlobal> LineWatch<R> for Guest<'a> {
+    /// Without a hint in the reply the log has one of its own.
+    fn note_refusal(&self, rt: &R, line: &[u8], refusal: &Refusal, hint: Option<&Hint>) {
+        let name = refusal.name();
+        match hint {
+            Some(hint) => self.note_refused(rt, name, Some(unlabelled(hint.as_str()))),
+            None => {
+                let hint = self.logged_hint(rt.alloc(), line, refusal);
+                self.note_refused(
+                    rt,
+                    name,
+                    hint.as_ref().map(|hint| unlabelled(hint.as_str())),
+                );
+            }
+        }
+    }
+
+    fn note_long_line(&self, rt: &R) {
+        self.note_refused(rt, "long-line", Some(LONG_LINE));
+    }
+
+    fn count_line(&self, _rt: &R) {
+        self.lines.set(self.lines.get().saturating_add(1));
+        self.slots.metrics().lines.count_one();
     }
 }
 

@@ -1,4 +1,4 @@
-//! Visits of a guest whose lines are counted, and logged if they are refused.
+//! What a guest asks of a desk: lines, which are counted, and logged if they are refused, and copies of its store.
 ghost use Rattle.std.specs.Prelude.{◌≡◌, ◌<◌, ◌^◌, true, false, List, ℕ};
 ghost use Rattle.std.specs.Io.KnownBytes.{Appends, Consumes};
 ghost use Rattle.grove_session.specs.Sessions.{SessionEnds};
@@ -7,127 +7,28 @@ ghost use Rattle.grove_page.specs.Hints.{caller, CallerState, IsCallerReply};
 use crate::guest::Guest;
 use crate::host::Host;
 use crate::leaving::has_left;
-use crate::metrics::Metrics;
 use crate::metrics_text::metrics_text;
-use grove_base::{Hint, NoMemory};
-use grove_desk::{Awaited, Desk, DeskFault, Opening, Told};
-use grove_page::{Front, HintedVisit, LONGEST_WAIT, RepliesSink, Visited, hint_of_refusal, visit};
-use grove_session::{AnswerFault, Answers, SessionFault, Sink, Source, session};
-use grove_store::{Keeper, Refusal, Store};
-use std::alloc::{AllocGlobal, Global};
+use grove_base::NoMemory;
+use grove_desk::{Awaited, Desk, DeskFault, Opening};
+use grove_page::{Front, HintedVisit, LONGEST_WAIT, RepliesSink, Visited, visit};
+use grove_session::{SessionFault, Sink, Source, session};
+use grove_store::{Keeper, Store};
+use std::alloc::AllocGlobal;
 use std::marker::Model;
 use std::net::TcpStream;
 use std::sync::Wait;
 use std::time::{Clock, Duration};
 
-/// A visitor of a desk whose lines are counted.
-#[derive(Drop)]
-pub struct WatchedVisit<'a, B: Opening, K: Keeper> {
-    visit: HintedVisit<'a, B, K, Metrics>,
+/// A visitor who has seen nothing yet and whose lines the guest counts and logs, with hints in refusals if these are
+/// asked for.
+fn visitor_for<'a, B: Opening, K: Keeper>(
+    desk: &'a Desk<B, K>,
     guest: &'a Guest<'a>,
-}
-
-impl<'a, B: Opening, K: Keeper> Model for WatchedVisit<'a, B, K> {
-    ghost use Rattle.grove_page.specs.Hints.{CallerState};
-
-    ghost Value = { CallerState };
-
-    ghost view = { λ watched. watched.visit };
-}
-
-impl<'a, B: Opening, K: Keeper> WatchedVisit<'a, B, K> {
-    /// A visitor who has seen nothing yet, with hints in refusals if these are asked for.
-    fn new(desk: &'a Desk<B, K>, guest: &'a Guest<'a>, hints: bool) -> Self
-        ensures { result ≡ caller hints desk.entry.now.opening }
-    {
-        let slots = guest.slots();
-        WatchedVisit {
-            visit: HintedVisit::watched(desk, slots.metrics(), hints, slots.tree()),
-            guest,
-        }
-    }
-
-    /// The same visitor, whose lines that are read together are answered together.
-    fn together(self) -> Self
-        ensures { result ≡ self.entry }
-    {
-        WatchedVisit {
-            visit: self.visit.together(),
-            ..self
-        }
-    }
-
-    /// What the visitor was told last.
-    fn told(&self) -> Told
-        ensures { result ≡ self.now.visit.told }
-    {
-        self.visit.told()
-    }
-
-    /// Counts and logs the line, which is refused, with the hint in its reply, or else with one for the log alone.
-    fn note_refusal<R: Wait + Clock + Eprint + AllocGlobal>(
-        &self,
-        rt: &R,
-        line: &[u8],
-        refusal: Refusal,
-    ) {
-        let name = refusal.name();
-        match self.visit.hint() {
-            Some(hint) => self.guest.note_refusal(rt, name, Some(hint)),
-            None => {
-                let hint = self.logged_hint(rt.alloc(), line, &refusal);
-                self.guest.note_refusal(rt, name, hint.as_ref());
-            }
-        }
-    }
-
-    /// The hint for a refused line, if there is a log, and memory for the hint.
-    fn logged_hint(&self, alloc: Global, line: &[u8], refusal: &Refusal) -> Option<Hint> {
-        let slots = self.guest.slots();
-        let _log = slots.log()?;
-        match hint_of_refusal(alloc, slots.tree(), line, refusal) {
-            Ok(hint) => Some(hint),
-            Err(NoMemory) => None,
-        }
-    }
-}
-
-impl<'a, B: Opening, K: Keeper + Drop, R: Host> Answers<R> for WatchedVisit<'a, B, K> {
-    ghost use Rattle.std.specs.Prelude.{true};
-    ghost use Rattle.std.specs.Thread.{IsSync};
-    ghost use Rattle.grove_page.specs.Hints.{IsCallerReply};
-
-    ghost lawful = { λ old line reply new. IsCallerReply old line reply new };
-
-    ghost is_shared = { true };
-
-    ghost asks = { IsSync R.row };
-
-    fn answer(&mut self, rt: &R, line: &[u8]) -> Result<Vec<u8>, AnswerFault> {
-        let reply = self.visit.answer(rt, line)?;
-        if let Told::Refused(refusal) = self.visit.told() {
-            self.note_refusal(rt, line, refusal);
-        }
-        self.guest.count_line();
-        Ok(reply)
-    }
-
-    fn may_hold(&self) -> bool {
-        true
-    }
-
-    fn pass_over(&self, rt: &R) {
-        self.guest.note_long_line(rt);
-        self.guest.count_line();
-    }
-
-    fn look_ahead(&mut self, rt: &R, bytes: &[u8]) {
-        self.visit.look_ahead(rt, bytes);
-    }
-
-    fn leave(&mut self, rt: &R) {
-        self.visit.leave(rt);
-    }
+    hints: bool,
+) -> HintedVisit<'a, B, K, Guest<'a>>
+    ensures { result ≡ caller hints desk.entry.now.opening }
+{
+    HintedVisit::watched(desk, guest, hints, guest.slots().tree())
 }
 
 /// Answers the lines of the guest's source at the desk, one after the other, with hints in refusals if these are asked
@@ -149,7 +50,7 @@ pub fn session_at<'a, B: Opening, K: Keeper + Drop, R: Host, I: Source, O: Sink>
         × SessionEnds true IsCallerReply (caller hints desk.now.opening) result (I.remaining source.new)
         input out new }
 {
-    let mut visitor = WatchedVisit::new(desk, guest, hints).together();
+    let mut visitor = visitor_for(desk, guest, hints).together();
     session(rt, &mut visitor, source, sink)
 }
 
@@ -218,7 +119,7 @@ impl<'a, B: Opening, K: Keeper + Drop, R: Host> Front<R> for ServedDesk<'a, B, K
 
     fn answer(&self, rt: &R, lines: &[u8], hints: bool, sink: &mut RepliesSink) -> Visited {
         let _turn = self.guest.slots().turn_of_body(rt, lines.len());
-        let mut visitor = WatchedVisit::new(self.desk, self.guest, hints);
+        let mut visitor = visitor_for(self.desk, self.guest, hints);
         let ended = visit(rt, &mut visitor, lines, sink);
         self.note_end(rt, ended);
         Visited::new(ended, visitor.told())

@@ -13,5 +13,5 @@ returns g c =
       appended,
       subst (λ (before : CallerState). SessionEnds true IsCallerReply before c.session.result
           (g.I.Source.remaining c.session.new.source) input out c.session.new.answers)
-          (c.together-visitor.ensures ∙ c.new.ensures) ends,
+          (c.together-visitor.ensures ∙ c.visitor_for.ensures) ends,
     )

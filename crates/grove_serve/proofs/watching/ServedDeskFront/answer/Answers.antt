@@ -18,4 +18,4 @@ returns g c =
     let both : Answers c.args.self.now = subst Answers c.self.view_is
     (answered c.args.hints c.self.inside.desk.now.opening c.args.lines.now c.visit-ended.result out
     c.visit-ended.new.answers c.new.result c.new.ensures.ended (subst Tells c.told.ensures c.new.ensures.refused)
-    (subst Begins c.new-visitor.ensures visits)) in (out, holds, both.0, both.1)
+    (subst Begins c.visitor_for-visitor.ensures visits)) in (out, holds, both.0, both.1)
