@@ -41,6 +41,13 @@ impl Records {
         self.values.len()
     }
 
+    /// The records, by the nodes' numbers.
+    pub fn values(&self) -> &[i64]
+        ensures { result.now ≡ self.now }
+    {
+        &self.values
+    }
+
     pub fn get(&self, node: Node) -> i64
         requires { node < length self.now }
         ensures { result ≡ record_at self.now node }

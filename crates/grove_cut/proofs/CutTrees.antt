@@ -5,8 +5,7 @@ use Rattle.std.proofs.lemmas.Option.{none-some}
 use Rattle.std.proofs.lemmas.Bool.{cases_eq}
 use Rattle.grove_tree.specs.Trees.{Rows, parent_of, name_of, up, one_more, depth_within, IsAbove, IsTree}
 use Rattle.grove_tree.specs.Rules.{is_name, heaviest, IsWithinLimits}
-use Rattle.grove_tree.proofs.Above.{parent_lt}
-use Rattle.grove_tree.proofs.PathDescent.{above_between}
+use Rattle.grove_tree.proofs.Above.{above_between, parent_lt}
 use Rattle.grove_cut.specs.CutTrees.{IsCut, CutsAreTrees}
 use Rattle.grove_cut.proofs.CutPlans.{parent_cut, same_origin, origin_less}
 

@@ -8,11 +8,11 @@ use Rattle.std.specs.Str.{IsUtf8}
 use Rattle.std.specs.declared.alloc.Global.{Global}
 use Rattle.std.specs.Int.{w64, cast_unsigned, cast_signed}
 use Rattle.std.proofs.lemmas.Int.{of_z-to_z}
-use Rattle.std.proofs.lemmas.List.{map_more, length-map, map-append}
+use Rattle.std.proofs.lemmas.List.{map_more, take_more, length-map, map-append}
 use Rattle.std.proofs.Math.ListN.{get_or-map}
 use Rattle.std.proofs.lemmas.List.Elements.{All-more, All-head, All-tail, All-map, All-from_get_or}
 use Rattle.std.proofs.Math.Facts.{sfits_to_z}
-use Rattle.grove_tree.specs.Trees.{Rows, parent_of, name_of}
+use Rattle.grove_tree.specs.Trees.{Rows, parent_of, name_of, weight_of}
 use Rattle.grove_tree.specs.Weights.{unweighed, weights_of}
 use Rattle.grove_tree.specs.BuiltRows.{rows_of}
 use Rattle.grove_tree.specs.declared.fault.TreeFault.{TreeFault}
@@ -76,6 +76,19 @@ put_record out old new records n bits value lt fits is cast put pushed = record 
       ∙ ap (λ (l : List ℕ). out ++ l) (sym (map_more (cast_unsigned w64) records n (pos 0) lt));
   fit = All-more (FitsSigned w64) records n (pos 0) lt put.fit (subst (FitsSigned w64) is fits);
 }
+
+weight_there : (rows : Rows) (node : ℕ) → get_or (weights_of rows) node 0 ≡ weight_of rows node
+weight_there [] node = refl
+weight_there (row ∷ rows) zero = refl
+weight_there (row ∷ rows) (suc node) = weight_there rows node
+
+pub put_weight : (out old new : List ℕ) (rows : Rows) (n weight : ℕ) → n < length rows → weight ≡ weight_of rows n
+    → old ≡ out ++ take n (weights_of rows) → new ≡ old ++ weight ∷ [] → new ≡ out ++ take (n + 1) (weights_of rows)
+put_weight out old new rows n weight lt is put pushed =
+    let long : length (weights_of rows) ≡ length rows = length-map rows _ in
+    put_more out old new (take n (weights_of rows)) weight pushed put
+    ∙ ap (λ (w : ℕ). out ++ (take n (weights_of rows) ++ w ∷ [])) (is ∙ sym (weight_there rows n))
+    ∙ ap (λ (l : List ℕ). out ++ l) (sym (take_more (weights_of rows) n 0 (omega arith)))
 
 pub put_name : (old new : List NodeName) (node : NodeName) (rows : Rows) (n : ℕ) → n < length rows
     → node.parent ≡ parent_of rows n → node.name.items ≡ name_of rows n → names_of old ≡ unweighed (take n rows)

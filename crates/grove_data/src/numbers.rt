@@ -1,12 +1,22 @@
 //! The numbers of a store.
 ghost use Rattle.std.specs.Prelude.{◌≡◌, ◌++◌, [], length, All, OnOk, FitsSigned};
 ghost use Rattle.std.specs.Int.{w64};
+ghost use Rattle.grove_tree.specs.Weights.{weights_of};
 ghost use Rattle.grove_data.specs.Numbers.{bits_of, numbers_of};
 
 use grove_access::Records;
 use grove_base::NoMemory;
 use grove_store::Store;
-use grove_tree::Node;
+use grove_tree::{Node, Tree};
+
+fn put_weights(out: &mut Vec<u64>, tree: &Tree) -> Result<(), NoMemory>
+    ensures { OnOk result (out.new.items ≡ out.old.items ++ weights_of tree.now) }
+{
+    for number in 0..tree.len() {
+        out.push(u64::from(tree.weight(Node::new(number))))?;
+    }
+    Ok(())
+}
 
 /// Puts the bits of as many records.
 fn put_records(out: &mut Vec<u64>, records: &Records, count: u32) -> Result<(), NoMemory>
@@ -36,7 +46,7 @@ pub(crate) fn put_numbers(out: &mut Vec<u64>, store: &Store) -> Result<(), NoMem
     ensures numbers { OnOk result (out.new.items ≡ numbers_of store.now) }
     ensures fit { OnOk result (All (FitsSigned w64) store.now.records) }
 {
-    store.tree().put_weights(out)?;
+    put_weights(out, store.tree())?;
     put_records(out, store.records(), store.tree().len())?;
     put_waits(out, store.waits())?;
     out.push(store.rounds())?;

@@ -5,16 +5,14 @@ use denote.Struct.Declared.{shape}
 use denote.Param.Send.{IsSend, IsSync, AllSend, AllSync, sendable, struct_send, struct_sync, recorded_send}
 use denote.Param.Send.{recorded_sync, view_send, view_sync}
 use Rattle.std.proofs.Crossing.{crosses, Vec-send}
-use Rattle.grove_tree.proofs.outline.Outline.TheLaws.TheKnot.{send-Outline, sync-Outline}
+use Rattle.grove_tree.proofs.Sharing.{Tree-sync}
+use Rattle.grove_store.proofs.Sharing.{Store-send}
 use Rattle.grove_wire.specs.contracts.request.Request as Request
 use Rattle.grove_line.specs.declared.line.Trees as trees
 use Rattle.grove_line.specs.contracts.line.Line as Line
 use Rattle.grove_line.specs.contracts.line.Line.TheInside as LineInside
-use Rattle.grove_tree.specs.contracts.name.Name as Name
-use Rattle.grove_tree.specs.contracts.outline.Outline as Outline
 use Rattle.grove_desk.specs.declared.opening.Opening as opening
 use Rattle.grove_store.specs.declared.keeper.Keeper as keeper
-use Rattle.grove_store.specs.contracts.store.Store as Store
 use Rattle.grove_build.specs.contracts.kept_plans.counts.PlanCounts as Counts
 use Rattle.grove_desk.specs.contracts.journal.Journal as Journal
 use Rattle.std.specs.contracts.vec.Vec as Vec
@@ -33,25 +31,6 @@ use Rattle.grove_desk.specs.contracts.ledger.Ledger.TheInside as Inside
 use Rattle.grove_desk.specs.contracts.board.Board as Board
 use Rattle.grove_desk.specs.contracts.desk.Desk.TheInside as DeskInside
 use Rattle.grove_desk.specs.contracts.desk.Desk as Desk
-
--- a name goes from one thread to another
-Name-send : IsSend Name.the_row
-Name-send = search (sendable, crosses) depth 30 fits 2000
-
--- and may be read by several
-Name-sync : IsSync Name.the_row
-Name-sync = search (sendable, crosses) depth 30 fits 2000
-
--- so does a node with all that is below it
-Outline-send : IsSend Outline.the_row
-Outline-send = search (sendable, crosses, send-Outline, Name-send) depth 60 fits 4000
-
-Outline-sync : IsSync Outline.the_row
-Outline-sync = search (sendable, crosses, sync-Outline, Name-sync) depth 60 fits 4000
-
--- a store goes from one thread to another
-Store-send : IsSend Store.the_row
-Store-send = search (sendable, crosses, Outline-send, Outline-sync) depth 60 fits 4000
 
 Journal-send : IsSend Journal.the_row
 Journal-send = search (sendable, crosses, Store-send) depth 60 fits 4000
@@ -140,7 +119,7 @@ module _ (B K : RattleType) (picked : opening.Ghosts B.Denot) (keeps : keeper.Gh
   DoorInside-sync : IsSync (DoorInside.the_row B picked)
   DoorInside-sync =
       let each : AllSync (shape (DoorInside.the_type B picked)).fields =
-      (search (sendable, crosses, Outline-sync) depth 60 fits 4000, (search (sendable, crosses), tt)) in
+      (search (sendable, crosses, Tree-sync) depth 60 fits 4000, (search (sendable, crosses), tt)) in
       recorded_sync _ _ _ (DoorInside.the_type B picked).to_one (struct_sync (shape (DoorInside.the_type B picked)) each)
 
   Door-sync : IsSync (Door.the_row B picked)

@@ -18,7 +18,7 @@ use Rattle.grove_plan.specs.declared.tally.Hold.TheVariants.{Free, Held, Done}
 use Rattle.grove_plan.specs.declared.tally.Tally.{Tally}
 use Rattle.grove_plan.specs.Plans.{locks, is_lock, is_access, held, slots_of}
 use Rattle.grove_plan.specs.Faults.{is_held, is_later, step_fault}
-use Rattle.grove_plan.specs.Tallies.{is_free, is_holding, holds_node, held_weight, cost_before, AreWeights, IsTally}
+use Rattle.grove_plan.specs.Tallies.{is_free, is_holding, holds_node, held_weight, cost_before, IsTally}
 use Rattle.grove_plan.proofs.StepFaults.{step_is, lock_kept, unlock_kept}
 use Rattle.grove_plan.proofs.StepEffects.{held_locked, holding_tells, free_tells, node_tells, each_locked, each_unlocked, each_accessed, weight_locked, weight_unlocked, weight_accessed, weight_small, weight_part, cost_same, cost_accessed}
 use Rattle.std.proofs.lemmas.Option.{slice_get-get_or}
@@ -96,8 +96,8 @@ free_held plan v position none = false_from_ne_true (held plan v position) (λ h
 
 -- before the first step
 pub tally_starts : {lengths : List ℕ} (rows : Rows) (plan : List Step) (tally : Tally) → tally.holds.items ≡ replicate (length rows) Free → tally.later ≡ false
-    → tally.accesses ≡ 0 → tally.weight ≡ 0 → tally.cost ≡ 0 → AreWeights rows tally.weights.kept → IsTally rows lengths plan 0 tally
-tally_starts rows plan tally holds later accesses weight cost kept = record {
+    → tally.accesses ≡ 0 → tally.weight ≡ 0 → tally.cost ≡ 0 → IsTally rows lengths plan 0 tally
+tally_starts rows plan tally holds later accesses weight cost = record {
   nodes = ap length holds ∙ length-replicate (length rows) Free;
   each = λ node lt. rw holds (get_or-replicate (length rows) node Free Free lt);
   later = later;
@@ -105,7 +105,6 @@ tally_starts rows plan tally holds later accesses weight cost kept = record {
   weight = weight ∙ sym (sum_zero (length rows) (λ node. 0) (λ node lt. refl));
   cost = cost ∙ sym (sum_zero (length rows) (λ node. weight_of rows node * 0) (λ node lt. omega arith));
   small = omega arith;
-  kept = kept;
 }
 
 later_lock : (plan : List Step) (position u : ℕ) → slice_get plan position ≡ Some (Lock u) → is_later plan (suc position) ≡ true
@@ -138,8 +137,8 @@ access_access step a at = rw at refl
 
 next_locked : {lengths : List ℕ} (rows : Rows) (plan : List Step) (position u : ℕ) (tally after : Tally) → IsTally rows lengths plan position tally → slice_get plan position ≡ Some (Lock u)
     → (u < length rows) × (any_below position (λ i. locks u (slice_get plan i)) ≡ false) → after.holds.items ≡ set tally.holds.items u Held → after.later ≡ true → after.accesses ≡ tally.accesses
-    → after.weight ≡ tally.weight + weight_of rows u → after.cost ≡ tally.cost → AreWeights rows after.weights.kept → IsTally rows lengths plan (suc position) after
-next_locked {lengths} rows plan position u tally after tallied at kept holds later accesses weight cost weights =
+    → after.weight ≡ tally.weight + weight_of rows u → after.cost ≡ tally.cost → IsTally rows lengths plan (suc position) after
+next_locked {lengths} rows plan position u tally after tallied at kept holds later accesses weight cost =
     let nodes : length tally.holds.items ≡ length rows = tallied.nodes in
     let lt : u < length rows = kept.0 in
     let quick : slots_of lengths (slice_get plan position) ≡ 0 = lock_slots lengths (slice_get plan position) u at in
@@ -153,13 +152,12 @@ next_locked {lengths} rows plan position u tally after tallied at kept holds lat
       weight = weight ∙ ap (λ (w : ℕ). w + weight_of rows u) tallied.weight ∙ sym weighed;
       cost = cost ∙ tallied.cost ∙ sym (cost_same rows lengths plan position quick);
       small = let small : tally.cost ≤ 4096000000 * position = tallied.small in omega arith;
-      kept = weights;
     }
 
 next_unlocked : {lengths : List ℕ} (rows : Rows) (plan : List Step) (position u : ℕ) (tally after : Tally) → IsTally rows lengths plan position tally → slice_get plan position ≡ Some (Unlock u)
     → (u < length rows) × (held plan u position ≡ true) → after.holds.items ≡ set tally.holds.items u Done → after.later ≡ tally.later → after.accesses ≡ tally.accesses
-    → after.weight ≡ tally.weight - weight_of rows u → after.cost ≡ tally.cost → AreWeights rows after.weights.kept → IsTally rows lengths plan (suc position) after
-next_unlocked {lengths} rows plan position u tally after tallied at kept holds later accesses weight cost weights =
+    → after.weight ≡ tally.weight - weight_of rows u → after.cost ≡ tally.cost → IsTally rows lengths plan (suc position) after
+next_unlocked {lengths} rows plan position u tally after tallied at kept holds later accesses weight cost =
     let nodes : length tally.holds.items ≡ length rows = tallied.nodes in
     let lt : u < length rows = kept.0 in
     let quick : slots_of lengths (slice_get plan position) ≡ 0 = unlock_slots lengths (slice_get plan position) u at in
@@ -174,13 +172,12 @@ next_unlocked {lengths} rows plan position u tally after tallied at kept holds l
       weight = omega arith;
       cost = cost ∙ tallied.cost ∙ sym (cost_same rows lengths plan position quick);
       small = let small : tally.cost ≤ 4096000000 * position = tallied.small in omega arith;
-      kept = weights;
     }
 
 next_accessed : {lengths : List ℕ} (rows : Rows) (plan : List Step) (position a : ℕ) (tally after : Tally) → IsWithinLimits rows → IsTally rows lengths plan position tally → slice_get plan position ≡ Some (Access a)
     → after.holds.items ≡ tally.holds.items → after.later ≡ tally.later → after.accesses ≡ tally.accesses + 1
-    → after.weight ≡ tally.weight → AreLengths lengths → after.cost ≡ tally.cost + tally.weight * slice_index lengths a → AreWeights rows after.weights.kept → IsTally rows lengths plan (suc position) after
-next_accessed {lengths} rows plan position a tally after limits tallied at holds later accesses weight are cost weights =
+    → after.weight ≡ tally.weight → AreLengths lengths → after.cost ≡ tally.cost + tally.weight * slice_index lengths a → IsTally rows lengths plan (suc position) after
+next_accessed {lengths} rows plan position a tally after limits tallied at holds later accesses weight are cost =
     let access : is_access (slice_get plan position) ≡ true = access_access (slice_get plan position) a at in
     let light : held_weight rows plan position ≤ 4096000 = weight_small rows plan position limits in
     let was : tally.weight ≡ held_weight rows plan position = tallied.weight in
@@ -199,7 +196,6 @@ next_accessed {lengths} rows plan position a tally after limits tallied at holds
       weight = weight ∙ was ∙ sym (weight_accessed rows plan position a at);
       cost = omega arith;
       small = let small : tally.cost ≤ 4096000000 * position = tallied.small in omega arith;
-      kept = weights;
     }
 
 -- The same as the code reads a step and writes the table
@@ -207,27 +203,27 @@ next_accessed {lengths} rows plan position a tally after limits tallied at holds
 -- a tally that takes a lock has followed the plan past it
 pub tally_locked : {lengths : List ℕ} (rows : Rows) (nodes : List ℕ) (plan : List Step) (position u i : ℕ) (d : Step) (tally after : Tally) → position < length plan → get_or plan position d ≡ Lock u → i ≡ u
     → IsTally rows lengths plan position tally → step_fault rows nodes plan position (slice_get plan position) ≡ None → after.holds.items ≡ set tally.holds.items i Held → after.later ≡ true
-    → after.accesses ≡ tally.accesses → after.weight ≡ tally.weight + weight_of rows u → after.cost ≡ tally.cost → AreWeights rows after.weights.kept → IsTally rows lengths plan (position + 1) after
-tally_locked rows nodes plan position u i d tally after within read is tallied kept holds later accesses weight cost weights =
+    → after.accesses ≡ tally.accesses → after.weight ≡ tally.weight + weight_of rows u → after.cost ≡ tally.cost → IsTally rows lengths plan (position + 1) after
+tally_locked rows nodes plan position u i d tally after within read is tallied kept holds later accesses weight cost =
     let rules = lock_kept rows plan position u (kept_read rows nodes plan position (Lock u) d within read kept) in
     rw add-one (next_locked rows plan position u tally after tallied (read_or plan position (Lock u) d within read) (rules.0, rules.1)
-    (holds ∙ ap (λ (n : ℕ). set tally.holds.items n Held) is) later accesses weight cost weights)
+    (holds ∙ ap (λ (n : ℕ). set tally.holds.items n Held) is) later accesses weight cost)
 
 -- and so has one that takes an unlock
 pub tally_unlocked : {lengths : List ℕ} (rows : Rows) (nodes : List ℕ) (plan : List Step) (position u i : ℕ) (d : Step) (tally after : Tally) → position < length plan → get_or plan position d ≡ Unlock u → i ≡ u
     → IsTally rows lengths plan position tally → step_fault rows nodes plan position (slice_get plan position) ≡ None → after.holds.items ≡ set tally.holds.items i Done → after.later ≡ tally.later
-    → after.accesses ≡ tally.accesses → after.weight ≡ tally.weight - weight_of rows u → after.cost ≡ tally.cost → AreWeights rows after.weights.kept → IsTally rows lengths plan (position + 1) after
-tally_unlocked rows nodes plan position u i d tally after within read is tallied kept holds later accesses weight cost weights =
+    → after.accesses ≡ tally.accesses → after.weight ≡ tally.weight - weight_of rows u → after.cost ≡ tally.cost → IsTally rows lengths plan (position + 1) after
+tally_unlocked rows nodes plan position u i d tally after within read is tallied kept holds later accesses weight cost =
     rw add-one (next_unlocked rows plan position u tally after tallied (read_or plan position (Unlock u) d within read)
     (unlock_kept rows plan position u (kept_read rows nodes plan position (Unlock u) d within read kept))
-    (holds ∙ ap (λ (n : ℕ). set tally.holds.items n Done) is) later accesses weight cost weights)
+    (holds ∙ ap (λ (n : ℕ). set tally.holds.items n Done) is) later accesses weight cost)
 
 -- and one that takes an access
 pub tally_accessed : {lengths : List ℕ} (rows : Rows) (plan : List Step) (position a : ℕ) (d : Step) (tally after : Tally) → IsWithinLimits rows → position < length plan → get_or plan position d ≡ Access a
     → IsTally rows lengths plan position tally → after.holds.items ≡ tally.holds.items → after.later ≡ tally.later → after.accesses ≡ tally.accesses + 1
-    → after.weight ≡ tally.weight → AreLengths lengths → after.cost ≡ tally.cost + tally.weight * slice_index lengths a → AreWeights rows after.weights.kept → IsTally rows lengths plan (position + 1) after
-tally_accessed rows plan position a d tally after limits within read tallied holds later accesses weight are cost weights =
-    rw add-one (next_accessed rows plan position a tally after limits tallied (read_or plan position (Access a) d within read) holds later accesses weight are cost weights)
+    → after.weight ≡ tally.weight → AreLengths lengths → after.cost ≡ tally.cost + tally.weight * slice_index lengths a → IsTally rows lengths plan (position + 1) after
+tally_accessed rows plan position a d tally after limits within read tallied holds later accesses weight are cost =
+    rw add-one (next_accessed rows plan position a tally after limits tallied (read_or plan position (Access a) d within read) holds later accesses weight are cost)
 
 -- What the tally holds is in range
 

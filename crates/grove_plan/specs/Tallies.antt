@@ -7,7 +7,6 @@ use Rattle.grove_plan.specs.declared.step.Step.{Step}
 use Rattle.grove_plan.specs.declared.tally.Hold.{Hold}
 use Rattle.grove_plan.specs.declared.tally.Hold.TheVariants.{Free, Held, Done}
 use Rattle.grove_plan.specs.declared.tally.Tally.{Tally}
-use Rattle.grove_plan.specs.declared.kept_weights.KeptWeight.{KeptWeight}
 use Rattle.grove_plan.specs.Plans.{locks, held, slots_of}
 use Rattle.grove_plan.specs.Slots.{accesses_before}
 use Rattle.grove_plan.specs.Faults.{is_later}
@@ -50,11 +49,6 @@ cost_before rows lengths plan position =
     (λ node. weight_of rows node * sum_below position
     (λ i. if held plan node i then slots_of lengths (slice_get plan i) else 0))
 
--- the weights that are kept are those of their nodes
-abbrev pub AreWeights : Rows → List KeptWeight → Type 0
-AreWeights rows kept = (place : ℕ) (entry : KeptWeight) → slice_get kept place ≡ Some entry
-    → entry.weight ≡ weight_of rows entry.node
-
 -- the tally of the steps before a position
 pub record IsTally (rows : Rows) (lengths : List ℕ) (plan : List Step) (position : ℕ) (tally : Tally) : Type 0 where
   pub nodes : length tally.holds.items ≡ length rows
@@ -64,4 +58,3 @@ pub record IsTally (rows : Rows) (lengths : List ℕ) (plan : List Step) (positi
   pub weight : tally.weight ≡ held_weight rows plan position
   pub cost : tally.cost ≡ cost_before rows lengths plan position
   pub small : tally.cost ≤ 4096000000 * position
-  pub kept : AreWeights rows tally.weights.kept

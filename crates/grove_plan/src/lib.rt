@@ -9,7 +9,6 @@ pub use step::Step;
 
 mod fault;
 mod judging;
-mod kept_weights;
 mod laws;
 mod plan;
 mod step;

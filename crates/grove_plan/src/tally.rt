@@ -7,7 +7,6 @@ ghost use Rattle.grove_plan.specs.Tallies.{IsTally, is_free, is_holding, holds_n
 ghost use Rattle.grove_tree.specs.Trees.{IsTree, parent_of};
 ghost use Rattle.grove_plan.specs.declared.tally.Hold.TheVariants.{Free};
 
-use crate::kept_weights::KeptWeights;
 use crate::{PlanFault, Step};
 use grove_access::AccessList;
 use grove_tree::{Node, Tree};
@@ -51,7 +50,6 @@ pub struct Tally {
     pub weight: u64,
     /// What the accesses cost so far.
     pub cost: u64,
-    pub weights: KeptWeights,
 }
 
 impl Tally {
@@ -66,7 +64,6 @@ impl Tally {
             accesses: 0,
             weight: 0,
             cost: 0,
-            weights: KeptWeights::new(tree),
         })
     }
 
@@ -154,11 +151,11 @@ impl Tally {
             Step::Lock(node) => {
                 self.holds[node.number() as usize] = Hold::Held;
                 self.later = true;
-                self.weight += u64::from(self.weights.look_up(tree, node));
+                self.weight += u64::from(tree.weight(node));
             }
             Step::Unlock(node) => {
                 self.holds[node.number() as usize] = Hold::Done;
-                self.weight -= u64::from(self.weights.weight(tree, node));
+                self.weight -= u64::from(tree.weight(node));
             }
             Step::Access(access) => {
                 self.accesses += 1;

@@ -2,10 +2,9 @@
 use Rattle.std.proofs.Common.{◌≡◌, ℕ, zero, suc, ◌<◌, ◌≤◌, List, length, slice_get, get_or, Some, None, sym, ◌∙◌, arith}
 use Rattle.std.proofs.lemmas.Option.{none-some, slice_get_within, slice_get-get_or}
 use Rattle.grove_tree.specs.Trees.{Rows, IsAbove, IsTree, parent_of}
-use Rattle.grove_tree.proofs.Above.{above_le, root_above}
+use Rattle.grove_tree.proofs.Above.{above_between, above_le, root_above}
 use Rattle.grove_access.specs.Lists.{AreNodes}
 use Rattle.grove_span.specs.Ways.{AreAscending, IsAscending, IsLowestCommon}
-use Rattle.grove_span.proofs.ForcedWays.{above_between}
 
 -- a node without a parent is above every node
 pub top_above : (rows : Rows) → IsTree rows → (v w : ℕ) → v < length rows → w < length rows → parent_of rows v ≡ None → IsAbove rows v w
@@ -28,7 +27,7 @@ lowest_of_ends rows targets end first last top tree within ascending size first_
           let inside : place < length targets = slice_get_within targets place target at in
           let most : target ≤ last = ascending place end target last (omega arith) at last_at in
           let low : top ≤ first = above_le rows tree top first over_first in
-          above_between rows tree top target last (within end last last_at) (omega arith) most over_last;
+          above_between rows tree top last target (within end last last_at) over_last (omega arith) most;
       lowest = λ node all. least node (all 0 first first_at) (all end last last_at);
     }
 

@@ -51,11 +51,12 @@ pub record IsListedTo (rows : Rows) (nodes lengths : List ℕ) (n : ℕ) (number
     pub weights : HaveWeights rows items
     pub accesses : HaveAccesses nodes lengths items
 
--- all below a number are listed, and the next accessed node is this target
-pub record IsNextTarget (rows : Rows) (nodes lengths : List ℕ) (next target : ℕ) (numbers : List ℕ)
+-- all below a number are listed, and the next node is above this target, which is the next accessed one
+pub record IsNextOnWay (rows : Rows) (nodes lengths : List ℕ) (next target node : ℕ) (numbers : List ℕ)
     (items : List SpanRow) : Type 0 where
   pub within : target < length rows
-  pub ahead : next ≤ target
+  pub above : IsAbove rows node target
+  pub ahead : next ≤ node
   pub first : IsFirstFrom nodes next target
   pub forced : AreForcedTo rows nodes next target
   pub listed : IsListedTo rows nodes lengths next numbers items

@@ -1,17 +1,17 @@
-ghost use Rattle.std.specs.Prelude.{◌≡◌, suc, ◌<◌, ◌≤◌, ◌++◌, ◌∷◌, [], length, IfOk, OnOk, map, Some};
+ghost use Rattle.std.specs.Prelude.{◌≡◌, ℕ, suc, ◌<◌, ◌≤◌, ◌++◌, ◌∷◌, [], length, IfOk, OnOk, map, Some};
 ghost use Rattle.std.specs.Prelude.{option_and_then};
-ghost use Rattle.grove_tree.specs.Trees.{parent_of};
+ghost use Rattle.grove_tree.specs.Trees.{parent_of, weight_of};
 ghost use Rattle.grove_access.specs.Lists.{nodes_of, lengths_of, AreNodes};
 ghost use Rattle.grove_access.specs.Forced.{forced_nodes};
 ghost use Rattle.grove_span.specs.SpanRows.{node_of_row, find_place, HaveParents, HaveWeights, HaveAccesses};
 ghost use Rattle.grove_span.specs.SpanRows.{IsAccessedSo};
-ghost use Rattle.grove_span.specs.Ways.{IsLowestCommon, IsNextTarget, AreAscending, IsListedTo, IsRising};
+ghost use Rattle.grove_span.specs.Ways.{IsLowestCommon, IsNextOnWay, AreAscending, IsListedTo, IsRising};
 ghost use Rattle.grove_span.specs.Ways.{HaveSlots, TellsOf};
 
 use crate::SpanRow;
 use crate::visit::{Visits, visits_at, visits_of};
 use grove_access::AccessList;
-use grove_tree::{NoMemory, Node, Tree, WayNode};
+use grove_tree::{NoMemory, Node, Tree};
 use std::alloc::Global;
 
 /// A tree is at most 32 deep.
@@ -26,69 +26,57 @@ struct Listed {
 }
 
 impl Listed {
-    /// Lists the nodes on the way down to the target that aren't listed yet. Only the target has accesses among them.
-    fn push_target(
+    /// Lists the node, which is the target or above it, behind those above it that aren't listed yet.
+    #[cycle(listing)]
+    fn push_way(
         &mut self,
-        alloc: Global,
         tree: &Tree,
         list: &AccessList,
         target: Node,
+        node: Node,
     ) -> Result<(), NoMemory>
         requires fits { AreNodes tree.now (nodes_of list.now) }
-        requires target { IsNextTarget tree.now (nodes_of list.now) (lengths_of list.now) self.old.next target
+        requires way { IsNextOnWay tree.now (nodes_of list.now) (lengths_of list.now) self.old.next target node
             self.old.numbers.items self.old.rows.items }
-        ensures next { OnOk result (self.new.next ≡ suc target) }
+        ensures next { OnOk result (self.new.next ≡ suc node) }
         ensures listed { OnOk result
             (IsListedTo tree.now (nodes_of list.now) (lengths_of list.now) self.new.next self.new.numbers.items
             self.new.rows.items) }
     {
-        // Often it is the target alone.
-        if let Some(parent) = tree.parent(target)
-            && parent.number() < self.next
-        {
-            return self.push_child(tree, list, target, parent);
-        }
+        self.push_above(tree, list, target, node)?;
         // The limits that hold of every tree are told with its length.
         let _nodes = tree.len();
-        let way = tree.way_to(alloc, target)?;
-        for step in &way {
-            if step.node.number() >= self.next {
-                let parent = parent_place(step.parent, &self.numbers);
-                let visits = visits_at(list, step.node, step.node == target);
-                self.push(row_of(list, step, parent, visits))?;
-            }
-        }
+        let place = parent_place(tree.parent(node), &self.numbers);
+        let visits = visits_at(list, node, node == target);
+        self.push(row_of(tree, list, node, place, visits))?;
         Ok(())
     }
 
-    /// Lists the target, whose parent isn't among the nodes still to be listed.
-    fn push_child(
+    /// Lists the nodes above a node on the way that aren't listed yet.
+    #[cycle(listing)]
+    fn push_above(
         &mut self,
         tree: &Tree,
         list: &AccessList,
         target: Node,
-        parent: Node,
+        node: Node,
     ) -> Result<(), NoMemory>
         requires fits { AreNodes tree.now (nodes_of list.now) }
-        requires target { IsNextTarget tree.now (nodes_of list.now) (lengths_of list.now) self.old.next target
+        requires way { IsNextOnWay tree.now (nodes_of list.now) (lengths_of list.now) self.old.next target node
             self.old.numbers.items self.old.rows.items }
-        requires parent { parent_of tree.now target ≡ Some parent }
-        requires listed_parent { parent < self.old.next }
-        ensures next { OnOk result (self.new.next ≡ suc target) }
-        ensures listed { OnOk result
-            (IsListedTo tree.now (nodes_of list.now) (lengths_of list.now) self.new.next self.new.numbers.items
-            self.new.rows.items) }
+        ensures way { OnOk result
+            (IsNextOnWay tree.now (nodes_of list.now) (lengths_of list.now) self.new.next target node
+            self.new.numbers.items self.new.rows.items) }
+        ensures parent { OnOk result ((parent : ℕ) → parent_of tree.now node ≡ Some parent → parent < self.new.next) }
     {
-        // The limits that hold of every tree are told with its length.
         let _nodes = tree.len();
-        let step = WayNode {
-            node: target,
-            parent: Some(parent),
-            weight: tree.weight(target),
+        let Some(parent) = tree.parent(node) else {
+            return Ok(());
         };
-        let place = place_of(parent.number(), &self.numbers);
-        let row = row_of(list, &step, place, visits_of(list, target));
-        self.push(row)?;
+        if parent.number() < self.next {
+            return Ok(());
+        }
+        self.push_way(tree, list, target, parent)?;
         Ok(())
     }
 
@@ -136,12 +124,19 @@ fn place_of(number: u32, numbers: &[u32]) -> Option<u32>
 }
 
 /// The row of a node with these visits.
-fn row_of(list: &AccessList, step: &WayNode, parent: Option<u32>, visits: Visits) -> SpanRow
-    requires tells { TellsOf (nodes_of list.now) (length (nodes_of list.now)) step.now.node visits }
+fn row_of(
+    tree: &Tree,
+    list: &AccessList,
+    node: Node,
+    parent: Option<u32>,
+    visits: Visits,
+) -> SpanRow
+    requires within { node < length tree.now }
+    requires tells { TellsOf (nodes_of list.now) (length (nodes_of list.now)) node visits }
     requires slots { HaveSlots (lengths_of list.now) visits }
-    ensures node { result.node ≡ step.now.node }
+    ensures node { result.node ≡ node }
     ensures parent { result.parent ≡ parent }
-    ensures weight { result.weight ≡ step.now.weight }
+    ensures weight { result.weight ≡ weight_of tree.now node }
     ensures accesses { IsAccessedSo (nodes_of list.now) (lengths_of list.now) result }
 {
     let Visits {
@@ -151,9 +146,9 @@ fn row_of(list: &AccessList, step: &WayNode, parent: Option<u32>, visits: Visits
         until,
     } = visits;
     SpanRow {
-        node: step.node,
+        node,
         parent,
-        weight: step.weight,
+        weight: tree.weight(node),
         first,
         last,
         from,
@@ -193,7 +188,8 @@ pub fn forced_rows(
     };
     for target in targets {
         if *target >= listed.next {
-            listed.push_target(alloc, tree, list, Node::new(*target))?;
+            let target = Node::new(*target);
+            listed.push_way(tree, list, target, target)?;
         }
     }
     Ok(listed.rows)

@@ -137,3 +137,18 @@ above_top rows high low own way = elim (above_step rows high low way) [
   | inl same ↦ same
   | inr (p, is, rest) ↦ absurd (none-some p (sym own ∙ is))
 ]
+
+-- what is above a node is above the rows between them
+pub above_between : (rows : Rows) → IsTree rows → (high low between : ℕ) → low < length rows → IsAbove rows high low → high ≤ between → between ≤ low → IsAbove rows high between
+above_between rows tree high zero between within way from to = let e : between ≡ zero = omega arith in rw e way
+above_between rows tree high (suc low) between within way from to = elim (cases_lt between (suc low)) [
+  | inl less ↦ elim (above_step rows high (suc low) way) [
+    | inl same ↦ absurd (omega arith)
+    | inr (p, own, rest) ↦
+        let (parent, is, before) = tree.preorder low within in
+        let e : p ≡ parent = same_Some _ _ (sym own ∙ is) in
+        let on = above_trans rows high parent low (rw e at rest) before in
+        above_between rows tree high low between (omega arith) on from (omega arith)
+  ]
+  | inr past ↦ let e : between ≡ suc low = omega arith in rw e way
+]

@@ -1,7 +1,8 @@
 -- The depth of a node is one more than its parent's.
-use Rattle.std.proofs.Common.{◌≡◌, ℕ, zero, suc, ◌<◌, length, Option, Some, None, refl, sym, ap, arith}
-use Rattle.grove_tree.specs.Trees.{Rows, parent_of, depth_within, depth_of}
-use Rattle.grove_tree.proofs.Above.{parent_within}
+use Rattle.std.proofs.Common.{◌≡◌, ℕ, zero, suc, ◌+◌, ◌<◌, List, length, get_or, Option, Some, None, refl, sym, ap, arith}
+use Rattle.grove_tree.specs.Trees.{Rows, IsTree, parent_of, depth_within, depth_of}
+use Rattle.grove_tree.specs.Depths.{AreDepths}
+use Rattle.grove_tree.proofs.Above.{parent_within, parent_lt}
 
 depth_enough_by : (rows : Rows) (n v : ℕ) (o : Option ℕ) → parent_of rows v ≡ o
     → ((p : ℕ) → o ≡ Some p → depth_within rows (suc n) p ≡ depth_within rows n p) → depth_within rows (suc (suc n)) v ≡ depth_within rows (suc n) v
@@ -34,3 +35,11 @@ depth_root_within rows v (suc n) h = rw h refl
 -- a row without a parent is not deep
 pub depth_root : (rows : Rows) (v : ℕ) → parent_of rows v ≡ None → depth_of rows v ≡ 0
 depth_root rows v h = depth_root_within rows v (length rows) h
+
+-- a node of a tree lies one deeper than its parent, whose depth stands among those before
+pub depth_below : (rows : Rows) → IsTree rows → (node : ℕ) (before : List ℕ) → AreDepths rows node before → (parent : ℕ) → parent_of rows node ≡ Some parent
+    → (parent < length before) × ((other : ℕ) → get_or before parent other + 1 ≡ depth_of rows node)
+depth_below rows tree node before (long, each) parent own =
+    let less : parent < node = parent_lt rows tree node parent own in
+    let step : depth_of rows node ≡ suc (depth_of rows parent) = depth_step rows (suc node) (λ v p lt h. parent_lt rows tree v p h) node parent (omega arith) own in
+    (omega arith, λ other. let is = each parent other less in omega arith)

@@ -1,14 +1,17 @@
 -- The rows of a tree whose nodes get other weights are those of a tree.
-use Rattle.std.proofs.Common.{◌≡◌, ℕ, zero, suc, add-zero, zero-add, ◌+◌, ◌<◌, ◌≤◌, ◌==◌, not, Bool, true, false, cond, [], ◌∷◌, length, Option, Some, None, refl, sym, ◌∙◌, ap, inl, inr, arith}
+use Rattle.std.proofs.Common.{◌≡◌, ℕ, zero, suc, add-zero, zero-add, ◌+◌, ◌<◌, ◌≤◌, ◌==◌, not, Bool, true, false, cond, List, [], ◌∷◌, length, Option, Some, None, refl, sym, ◌∙◌, ap, inl, inr, arith}
 use Rattle.std.specs.Option.{option_and_then}
 use Rattle.std.proofs.lemmas.Bool.{cases_lt}
 use Rattle.grove_base.specs.Numbers.{count_below}
 use Rattle.grove_tree.specs.Trees.{Rows, parent_of, name_of, weight_of, depth_of, depth_within, one_more, up, IsTree}
-use Rattle.grove_tree.specs.Rules.{IsWithinLimits}
-use Rattle.grove_tree.specs.Outlines.{Under}
+use Rattle.grove_tree.specs.Rules.{IsWithinLimits, AreTreeRows}
+use Rattle.grove_tree.specs.declared.row.Row.{Row}
+use Rattle.grove_tree.specs.BuiltRows.{row_of, rows_of}
+use Rattle.grove_tree.specs.Depths.{AreDepths}
 use Rattle.grove_tree.specs.Weights.{weighed_from, with_weights}
-use Rattle.grove_tree.specs.WeighedOutlines.{changes_from, weighed}
+use Rattle.grove_tree.specs.WeighedRows.{changes_from}
 use Rattle.grove_base.proofs.Counting.{count_front}
+use Rattle.grove_base.proofs.Lists.{map_length}
 use Rattle.grove_tree.proofs.WeightsByRule.{length-weighed_from, parent_of-weighed_from}
 
 -- Rows with the same parents
@@ -132,18 +135,27 @@ changes_counted f node (row ∷ rows) =
     let front = count_front (length rows) (λ place. not (weight_of (weighed_from f node (row ∷ rows)) place == weight_of (row ∷ rows) place)) in
     omega arith
 
--- The root's outline, once its nodes got their weights
+-- as many weights changed as the rule changes
+pub weights_counted : (f : ℕ → ℕ → ℕ) (rows after : Rows) (count : ℕ) → after ≡ with_weights f rows → count ≡ changes_from f 0 rows
+    → count ≡ count_below (length rows) (λ node. not (weight_of after node == weight_of rows node))
+weights_counted f rows after count is counted = rw is (counted ∙ changes_counted f 0 rows)
 
--- the root's outline has the rows with their new weights
-pub root_weighed : (f : ℕ → ℕ → ℕ) (rows : Rows) (root after : Under) → root.0 ≡ 0 → root.1 ≡ rows → after ≡ weighed f root → (after.0 ≡ 0) × (after.1 ≡ with_weights f rows)
-root_weighed f rows root after number view is = (
-  ap (λ (v : Under). v.0) is ∙ number,
-  ap (λ (v : Under). v.1) is ∙ ap (λ (n : ℕ). weighed_from f n root.1) number ∙ ap (λ (r : Rows). weighed_from f 0 r) view,
-)
+-- Rows of a list, once their nodes got their weights
 
--- and as many weights changed as the rule changes
-pub root_counted : (f : ℕ → ℕ → ℕ) (rows : Rows) (root after : Under) (count : ℕ) → root.0 ≡ 0 → root.1 ≡ rows → after ≡ weighed f root
-    → count ≡ changes_from f root.0 root.1 → count ≡ count_below (length rows) (λ node. not (weight_of after.1 node == weight_of rows node))
-root_counted f rows root after count number view is counted =
-    let (zero_is, same) = root_weighed f rows root after number view is in
-    rw same (counted ∙ ap (λ (n : ℕ). changes_from f n root.1) number ∙ ap (λ (r : Rows). changes_from f 0 r) view ∙ changes_counted f 0 rows)
+-- rows with new weights are those of a tree where the rows were
+pub weighed_tree : (f : ℕ → ℕ → ℕ) (rows after : List Row) → rows_of after ≡ with_weights f (rows_of rows)
+    → ((node : ℕ) → node < length (rows_of rows) → (1 ≤ f node (weight_of (rows_of rows) node)) × (f node (weight_of (rows_of rows) node) ≤ 1000))
+    → AreTreeRows (rows_of rows) → AreTreeRows (rows_of after)
+weighed_tree f rows after is weights (tree, limits) =
+    rw is (tree_alike (rows_of rows) _ (alike_weighed f (rows_of rows)) tree, limits_weighed f (rows_of rows) weights limits)
+
+-- and their nodes are as deep
+pub weighed_depths : (f : ℕ → ℕ → ℕ) (rows after : List Row) (depths : List ℕ) → rows_of after ≡ with_weights f (rows_of rows)
+    → AreDepths (rows_of rows) (length rows) depths → AreDepths (rows_of after) (length after) depths
+weighed_depths f rows after depths is (long, each) =
+    let alike = alike_weighed f (rows_of rows) in
+    let same : length after ≡ length rows =
+    sym (map_length row_of after) ∙ ap (λ (r : Rows). length r) is ∙ alike.long ∙ map_length row_of rows in (
+      long ∙ sym same,
+      λ node other lt. each node other (omega arith) ∙ rw is (sym (depth_of_alike (rows_of rows) (with_weights f (rows_of rows)) alike node)),
+    )

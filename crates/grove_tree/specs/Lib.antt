@@ -1,14 +1,10 @@
 pub mod Trees
-pub mod Outlines
-pub mod OutlineFalls
 pub mod Paths
 pub mod Rules
 pub mod Weights
-pub mod WeighedOutlines
-pub mod OutlinesInTrees
+pub mod WeighedRows
 pub mod PathRests
-pub mod Ways
-pub mod Standings
-pub mod Siblings
+pub mod Depths
+pub mod WellPlaced
 pub mod RowMarks
 pub mod BuiltRows

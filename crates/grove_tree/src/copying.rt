@@ -1,25 +1,26 @@
 ghost use Rattle.std.specs.Prelude.{◌≡◌, IfOk};
+ghost use Rattle.grove_tree.specs.BuiltRows.{row_of, rows_of};
 
-use crate::Outline;
+use crate::Row;
 use std::alloc::{AllocError, Global};
 
-/// The outline again, with all that is below its node.
-pub fn copy_of(alloc: Global, outline: &Outline) -> Result<Outline, AllocError>
-    ensures { IfOk result (λ copy. copy ≡ outline.now) }
+fn copy_of_row(row: &Row) -> Result<Row, AllocError>
+    ensures { IfOk result (λ copy. row_of copy ≡ row_of row.now) }
 {
-    let name = outline.name.copy()?;
-    let mut children = Vec::with_capacity(alloc, outline.children.len())?;
-    for child in &outline.children {
-        let copy = copy_of(alloc, child)?;
-        children.push(copy)?;
-    }
-    let marks = Vec::from_slice(alloc, &outline.marks)?;
-    Ok(Outline {
-        name,
-        weight: outline.weight,
-        number: outline.number,
-        size: outline.size,
-        children,
-        marks,
+    Ok(Row {
+        parent: row.parent,
+        name: row.name.clone()?,
+        weight: row.weight,
     })
+}
+
+/// The rows again.
+pub fn copy_of_rows(alloc: Global, rows: &[Row]) -> Result<Vec<Row>, AllocError>
+    ensures { IfOk result (λ copy. rows_of copy.items ≡ rows_of rows.now) }
+{
+    let mut copies = Vec::with_capacity(alloc, rows.len())?;
+    for row in rows {
+        copies.push(copy_of_row(row)?)?;
+    }
+    Ok(copies)
 }

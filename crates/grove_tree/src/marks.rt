@@ -2,10 +2,10 @@ ghost use Rattle.std.specs.Prelude.{◌≡◌, ℕ, suc, ◌<◌, ◌↔◌, len
 ghost use Rattle.grove_base.specs.Numbers.{any_below};
 ghost use Rattle.grove_tree.specs.Rules.{is_twin};
 ghost use Rattle.grove_tree.specs.BuiltRows.{rows_of};
-ghost use Rattle.grove_tree.specs.RowMarks.{row_mark, IsSet, AreNoted};
+ghost use Rattle.grove_tree.specs.PathRests.{mark_of};
+ghost use Rattle.grove_tree.specs.RowMarks.{mark_below, row_mark, IsSet, AreNoted};
 
 use crate::Row;
-use crate::name::mark_of;
 
 /// How many marks there are.
 const MARKS: u32 = 131_072;
@@ -65,13 +65,34 @@ impl Marks {
 }
 
 /// A mark of the row's parent and its name.
-fn mark_of_row(rows: &[Row], row: u32) -> usize
+pub(crate) fn mark_of_row(rows: &[Row], row: u32) -> usize
     requires { row < length rows.now }
     ensures within { result < 131072 }
     ensures mark { result ≡ row_mark (rows_of rows.now) row }
 {
     let row = &rows[row as usize];
-    let parent = row.parent.unwrap_or(0);
-    let name = mark_of(row.name.as_bytes());
+    mark_below(row.parent.unwrap_or(0), row.name.as_bytes())
+}
+
+/// A mark of a parent and of the name before the first slash.
+pub(crate) fn mark_below(parent: u32, name: &[u8]) -> usize
+    ensures within { result < 131072 }
+    ensures mark { result ≡ mark_below parent name.now }
+{
+    let name = mark_of(name);
     (name.wrapping_add(parent.wrapping_mul(APART)) % MARKS) as usize
+}
+
+/// A mark of the bytes before the first slash.
+fn mark_of(bytes: &[u8]) -> u32
+    ensures { result ≡ mark_of bytes.now }
+{
+    let mut mark = 0u32;
+    for byte in bytes {
+        if *byte == b'/' {
+            break;
+        }
+        mark = mark.wrapping_mul(31).wrapping_add(u32::from(*byte));
+    }
+    mark
 }

@@ -1,11 +1,11 @@
-ghost use Rattle.std.specs.Prelude.{◌≡◌, ℕ, suc, ◌<◌, ◌≤◌, ◌↔◌, length, IsTrue, None, Some, IfSome, IfNone};
+ghost use Rattle.std.specs.Prelude.{◌≡◌, ℕ, ◌<◌, ◌≤◌, ◌↔◌, ◌&&◌, length, IsTrue, None, Some, bytes_eq, string_bytes};
 ghost use Rattle.std.specs.List.{list_all};
 ghost use Rattle.grove_base.specs.Numbers.{any_below};
 ghost use Rattle.grove_tree.specs.Trees.{IsAbove, parent_of, weight_of, depth_of};
-ghost use Rattle.grove_tree.specs.Rules.{is_name_byte, is_name, is_well_placed, is_well_named, is_twin};
+ghost use Rattle.grove_tree.specs.Rules.{is_name_byte, is_name, is_well_placed, is_well_named, is_twin, share_parent};
 ghost use Rattle.grove_tree.specs.Rules.{is_weight, row_fault, rows_fault, tree_fault_of};
 ghost use Rattle.grove_tree.specs.BuiltRows.{rows_of};
-ghost use Rattle.grove_tree.specs.Siblings.{AreWellPlaced, HasNoChild};
+ghost use Rattle.grove_tree.specs.WellPlaced.{AreWellPlaced};
 ghost use Rattle.grove_tree.specs.RowMarks.{AreNoted};
 
 use crate::marks::Marks;
@@ -31,7 +31,7 @@ pub fn parent_of_row(rows: &[Row], row: u32) -> Option<u32>
 }
 
 /// Is `high` the row `low` or one above it?
-fn is_on_way(rows: &[Row], high: u32, low: u32) -> bool
+pub fn is_on_way(rows: &[Row], high: u32, low: u32) -> bool
     requires within { low < length rows.now }
     requires rising { (row parent : ℕ) → row ≤ low → parent_of (rows_of rows.now) row ≡ Some parent → parent < row }
     ensures { IsTrue result ↔ IsAbove (rows_of rows.now) high low }
@@ -105,51 +105,31 @@ fn is_row_well_named(rows: &[Row], row: u32) -> bool
     }
 }
 
-/// The nearest row before this one that has the same parent: the first below that parent on the way up from the row
-/// before this one.
-fn sibling_before(rows: &[Row], row: u32, parent: u32) -> Option<u32>
-    requires within { row < length rows.now }
-    requires placed { AreWellPlaced (rows_of rows.now) (suc row) }
-    requires own { parent_of (rows_of rows.now) row ≡ Some parent }
-    ensures sibling { IfSome result (λ other. (other < row) × (parent_of (rows_of rows.now) other ≡ Some parent)
-        × HasNoChild (rows_of rows.now) parent (suc other) row) }
-    ensures none { IfNone result (HasNoChild (rows_of rows.now) parent 0 row) }
+/// Have both rows the same parent and the same name?
+fn are_twins(row: &Row, other: &Row) -> bool
+    ensures { result ≡ (share_parent row.now.parent other.now.parent
+        && bytes_eq (string_bytes other.now.name) (string_bytes row.now.name)) }
 {
-    let mut at = row - 1;
-    while at > parent {
-        let above = parent_of_row(rows, at)?;
-        if above == parent {
-            return Some(at);
-        }
-        at = above;
-    }
-    None
+    row.parent.is_some() && row.parent == other.parent && other.name == row.name
 }
 
 /// Has an earlier row the same parent and the same name?
 fn has_twin(rows: &[Row], row: u32) -> bool
-    requires within { row < length rows.now }
-    requires placed { AreWellPlaced (rows_of rows.now) (suc row) }
+    requires { row < length rows.now }
     ensures { result ≡ any_below row (is_twin (rows_of rows.now) row) }
 {
-    let Some(parent) = parent_of_row(rows, row) else {
-        return false;
-    };
-    let name = &rows[row as usize].name;
-    let mut at = row;
-    while let Some(sibling) = sibling_before(rows, at, parent) {
-        if rows[sibling as usize].name == *name {
+    let own = &rows[row as usize];
+    for other in 0..row {
+        if are_twins(own, &rows[other as usize]) {
             return true;
         }
-        at = sibling;
     }
     false
 }
 
-/// The same, with the siblings gone through only where the row's mark is there.
+/// The same, with the earlier rows gone through only where the row's mark is there.
 fn is_twice_named(marks: &Marks, rows: &[Row], row: u32) -> bool
     requires within { row < length rows.now }
-    requires placed { AreWellPlaced (rows_of rows.now) (suc row) }
     requires noted { AreNoted marks.now.words (rows_of rows.now) row }
     ensures { result ≡ any_below row (is_twin (rows_of rows.now) row) }
 {

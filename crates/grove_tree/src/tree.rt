@@ -1,21 +1,20 @@
-ghost use Rattle.std.specs.Prelude.{◌≡◌, ◌≢◌, ℕ, ◌<◌, ◌↔◌, ◌++◌, length, IsTrue, IfOk, OnOk, IfErr, IsErrOf};
+ghost use Rattle.std.specs.Prelude.{◌≡◌, ◌≢◌, ℕ, ◌<◌, ◌↔◌, length, IsTrue, IfOk, OnOk, IfErr, IsErrOf};
 ghost use Rattle.std.specs.Prelude.{IfSome, Some, None, string_bytes};
 ghost use Rattle.grove_tree.specs.Trees.{IsTree, IsAbove, parent_of, weight_of, depth_of};
 ghost use Rattle.grove_tree.specs.Paths.{path_of, node_at, names_within};
 ghost use Rattle.grove_tree.specs.Rules.{tree_fault_of, IsWithinLimits, AreTreeRows};
 ghost use Rattle.grove_tree.specs.BuiltRows.{rows_of};
-ghost use Rattle.grove_tree.specs.Weights.{weights_of};
 
-use crate::growing::grow;
-use crate::listing::put_weights;
-use crate::rules::fault_of;
-use crate::standing::{Standing, standings_of};
-use crate::{NoMemory, Node, Outline, Row, TreeFault};
+use crate::copying::copy_of_rows;
+use crate::depth::depths_of;
+use crate::finding::child_on;
+use crate::guesses::Guesses;
+use crate::rules::{fault_of, is_on_way, parent_of_row};
+use crate::{NoMemory, Node, Row, TreeFault};
 use std::alloc::Global;
 use std::marker::Model;
 
 mod copies;
-mod ways;
 mod weights;
 
 /// How many bytes most paths have at most.
@@ -24,23 +23,27 @@ const USUAL_PATH: usize = 64;
 /// A tree of at most 4,096 nodes, no deeper than 32, numbered in preorder.
 #[derive(Debug, Drop)]
 pub struct Tree {
-    root: Outline,
-    /// Where each node stands, by its number.
-    standings: Vec<Standing>,
+    /// The rows that it was built from, with the weights that the nodes have now.
+    rows: Vec<Row>,
+    /// How many parents are above each node.
+    depths: Vec<u32>,
+    /// Where to look first for a node by its name.
+    guesses: Guesses,
 }
 
 impl Model for Tree {
-    ghost use Rattle.std.specs.Prelude.{◌≡◌, length};
-    ghost use Rattle.grove_tree.specs.Trees.{Rows, IsTree};
-    ghost use Rattle.grove_tree.specs.Rules.{IsWithinLimits};
-    ghost use Rattle.grove_tree.specs.Standings.{AreStandings};
+    ghost use Rattle.std.specs.Prelude.{length};
+    ghost use Rattle.grove_tree.specs.Trees.{Rows};
+    ghost use Rattle.grove_tree.specs.Rules.{AreTreeRows};
+    ghost use Rattle.grove_tree.specs.BuiltRows.{rows_of};
+    ghost use Rattle.grove_tree.specs.Depths.{AreDepths};
 
     ghost Value = { Rows };
 
-    ghost view = { λ tree. tree.root.1 };
+    ghost view = { λ tree. rows_of tree.rows.items };
 
-    ghost invariant = { λ tree. (tree.root.0 ≡ 0) × IsTree tree.root.1 × IsWithinLimits tree.root.1
-        × AreStandings tree.root.1 (length tree.root.1) tree.standings.items };
+    ghost invariant = { λ tree. AreTreeRows (rows_of tree.rows.items)
+        × AreDepths (rows_of tree.rows.items) (length tree.rows.items) tree.depths.items };
 }
 
 impl Tree {
@@ -59,9 +62,14 @@ impl Tree {
         match fault_of(rows) {
             Some(fault) => Err(fault),
             None => {
-                let root = grow(alloc, rows, 0)?;
-                let standings = standings_of(alloc, rows)?;
-                Ok(Tree { root, standings })
+                let guesses = Guesses::new(alloc, rows)?;
+                let depths = depths_of(alloc, rows)?;
+                let rows = copy_of_rows(alloc, rows)?;
+                Ok(Tree {
+                    rows,
+                    depths,
+                    guesses,
+                })
             }
         }
     }
@@ -89,22 +97,21 @@ impl Tree {
         ensures only { (node : ℕ) → node < length self.now → names_within self.now (length self.now) node ≡ names.now
             → result ≡ Some node }
     {
-        let mut at = &self.root;
+        let mut at = 0;
         let mut rest = names;
         while !rest.is_empty() {
-            let (child, below) = at.child_on(rest)?;
+            let (child, below) = child_on(&self.rows, &self.guesses, at, rest)?;
             at = child;
             rest = below;
         }
-        Some(Node::new(at.number))
+        Some(Node::new(at))
     }
 
     pub fn parent(&self, node: Node) -> Option<Node>
         requires { node < length self.now }
         ensures { result ≡ parent_of self.now node }
     {
-        let standing = self.standings[node.number() as usize];
-        standing.parent
+        parent_of_row(&self.rows, node.number()).map(Node::new)
     }
 
     /// How many parents are above the node.
@@ -112,8 +119,7 @@ impl Tree {
         requires { node < length self.now }
         ensures { result ≡ depth_of self.now node }
     {
-        let standing = self.standings[node.number() as usize];
-        standing.depth
+        self.depths[node.number() as usize]
     }
 
     /// Is `high` the node `low` or one above it?
@@ -122,31 +128,15 @@ impl Tree {
         requires low { low < length self.now }
         ensures { IsTrue result ↔ IsAbove self.now high low }
     {
-        let mut at = &self.root;
-        let mut met = at.number == high.number();
-        while let Some(child) = at.towards(low.number()) {
-            met = met || child.number == high.number();
-            at = child;
-        }
-        met
+        is_on_way(&self.rows, high.number(), low.number())
     }
 
     pub fn weight(&self, node: Node) -> u32
         requires { node < length self.now }
         ensures { result ≡ weight_of self.now node }
     {
-        let mut at = &self.root;
-        while let Some(child) = at.towards(node.number()) {
-            at = child;
-        }
-        at.weight
-    }
-
-    /// Puts the weights of all nodes, by their numbers, behind what stands there.
-    pub fn put_weights(&self, out: &mut Vec<u64>) -> Result<(), NoMemory>
-        ensures { OnOk result (out.new.items ≡ out.old.items ++ weights_of self.now) }
-    {
-        Ok(put_weights(out, &self.root)?)
+        let row = &self.rows[node.number() as usize];
+        row.weight
     }
 
     /// The number of nodes. What holds of every tree is told here.
@@ -155,15 +145,14 @@ impl Tree {
         ensures tree { IsTree self.now }
         ensures limits { IsWithinLimits self.now }
     {
-        let root = &self.root;
-        root.size
+        self.rows.len() as u32
     }
 
     pub fn root(&self) -> Node
         ensures root { result ≡ 0 }
         ensures within { 0 < length self.now }
     {
-        let _ = &self.root;
+        let _ = &self.rows;
         Node::new(0)
     }
 
@@ -173,16 +162,26 @@ impl Tree {
         ensures path { IfOk result (λ path. string_bytes path ≡ path_of self.now node) }
         ensures found { OnOk result (node_at self.now (path_of self.now node) ≡ Some node) }
     {
-        let mut path = String::with_capacity(alloc, USUAL_PATH)?;
-        let mut at = &self.root;
-        while let Some(child) = at.towards(node.number()) {
-            path.push_str("/")?;
-            path.push_str(child.name.as_str())?;
-            at = child;
-        }
+        let mut path = self.names_to(alloc, node)?;
         if path.is_empty() {
             path.push_str("/")?;
         }
         Ok(path)
+    }
+
+    /// The names from the root down to the node, each after a slash.
+    fn names_to(&self, alloc: Global, node: Node) -> Result<String, NoMemory>
+        requires { node < length self.now }
+        ensures names { IfOk result (λ names. string_bytes names ≡ names_within self.now (length self.now) node) }
+        ensures tree { AreTreeRows self.now }
+    {
+        let row = &self.rows[node.number() as usize];
+        let Some(parent) = self.parent(node) else {
+            return Ok(String::with_capacity(alloc, USUAL_PATH)?);
+        };
+        let mut names = self.names_to(alloc, parent)?;
+        names.push_str("/")?;
+        names.push_str(row.name.as_str())?;
+        Ok(names)
     }
 }

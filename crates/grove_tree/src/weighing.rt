@@ -1,10 +1,10 @@
-ghost use Rattle.std.specs.Prelude.{◌≡◌, ℕ, ◌<◌, ◌^◌};
+ghost use Rattle.std.specs.Prelude.{◌≡◌, ℕ, ◌+◌, ◌≤◌, length};
 ghost use Rattle.std.specs.Thread.{IsSync};
-ghost use Rattle.grove_tree.specs.Outlines.{total};
-ghost use Rattle.grove_tree.specs.WeighedOutlines.{changes_from, weighed, weighed_all, changes_all, AreTaken, AllTaken};
+ghost use Rattle.grove_tree.specs.BuiltRows.{rows_of};
+ghost use Rattle.grove_tree.specs.Weights.{weighed_from};
+ghost use Rattle.grove_tree.specs.WeighedRows.{changes_from, AreTaken};
 
-use crate::weighing_alone::weigh_all_alone;
-use crate::{Gate, Outline};
+use crate::{Gate, Row};
 use std::thread::{Threads, join_mut};
 
 /// A rule by which nodes get new weights.
@@ -19,68 +19,78 @@ pub trait Rule {
         ensures { result ≡ gives self.now node old };
 }
 
-/// Gives the outline's own node its new weight, and then all that is below it. The result is the number of weights
+/// Gives the first of the rows its new weight. The result is 1 if that is another one.
+fn weigh_first<U: Rule, G: Gate>(rule: &U, gate: &G, node: u32, rows: &mut [Row]) -> u32
+    requires one { length rows.old ≡ 1 }
+    requires taken { AreTaken (U.takes rule.now) node (rows_of rows.old) }
+    ensures rows { rows_of rows.new ≡ weighed_from (U.gives rule.now) node (rows_of rows.old) }
+    ensures count { result ≡ changes_from (U.gives rule.now) node (rows_of rows.old) }
+{
+    gate.at(node, 0);
+    let old = rows[0].weight;
+    let new = rule.weight(node, old);
+    rows[0].weight = new;
+    u32::from(new != old)
+}
+
+/// Gives each of the rows its new weight, of which the first is this node's. The result is the number of weights
 /// changed.
-#[cycle(weighing)]
+pub fn weigh_alone<U: Rule, G: Gate>(rule: &U, gate: &G, first: u32, rows: &mut [Row]) -> u32
+    requires room { first + length rows.old ≤ 4096 }
+    requires taken { AreTaken (U.takes rule.now) first (rows_of rows.old) }
+    ensures rows { rows_of rows.new ≡ weighed_from (U.gives rule.now) first (rows_of rows.old) }
+    ensures count { result ≡ changes_from (U.gives rule.now) first (rows_of rows.old) }
+{
+    let count = rows.len();
+    if count == 0 {
+        return 0;
+    }
+    if count == 1 {
+        return weigh_first(rule, gate, first, rows);
+    }
+    let half = count / 2;
+    let (front, back) = rows.split_at_mut(half);
+    let early = weigh_alone(rule, gate, first, front);
+    early + weigh_alone(rule, gate, first + half as u32, back)
+}
+
+/// The same, with two workers or more for both halves at once, the first by half of the workers; if no thread can be
+/// started, the first half is done first.
 pub fn weigh<R: Threads + Sync, U: Rule + Sync, G: Gate + Sync>(
     rt: &R,
     rule: &U,
     gate: &G,
     workers: u32,
-    outline: &mut Outline,
+    first: u32,
+    rows: &mut [Row],
 ) -> u32
-    requires { AreTaken (U.takes rule.now) outline.old.0 outline.old.1 }
-    ensures rows { outline.new ≡ weighed (U.gives rule.now) outline.old }
-    ensures count { result ≡ changes_from (U.gives rule.now) outline.old.0 outline.old.1 }
+    requires room { first + length rows.old ≤ 4096 }
+    requires taken { AreTaken (U.takes rule.now) first (rows_of rows.old) }
+    ensures rows { rows_of rows.new ≡ weighed_from (U.gives rule.now) first (rows_of rows.old) }
+    ensures count { result ≡ changes_from (U.gives rule.now) first (rows_of rows.old) }
 {
-    gate.at(outline.number, 0);
-    let old = outline.weight;
-    let new = rule.weight(outline.number, old);
-    outline.weight = new;
-    let below = weigh_all(rt, rule, gate, workers, &mut outline.children);
-    if new == old { below } else { below + 1 }
-}
-
-/// Does so for a slice of outlines, cut in two as long as there is more than one. With two workers or more both halves
-/// are done at once, the first by half of the workers; if no thread can be started, the first half is done first.
-#[cycle(weighing)]
-fn weigh_all<R: Threads + Sync, U: Rule + Sync, G: Gate + Sync>(
-    rt: &R,
-    rule: &U,
-    gate: &G,
-    workers: u32,
-    parts: &mut [Outline],
-) -> u32
-    requires room { total parts.old < 2 ^ 32 }
-    requires taken { AllTaken (U.takes rule.now) parts.old }
-    ensures rows { parts.new ≡ weighed_all (U.gives rule.now) parts.old }
-    ensures count { result ≡ changes_all (U.gives rule.now) parts.old }
-{
-    if workers < 2 {
-        return weigh_all_alone(rule, gate, parts);
+    if workers < 2 || rows.len() < 2 {
+        return weigh_alone(rule, gate, first, rows);
     }
-    let count = parts.len();
-    if count == 0 {
-        return 0;
-    }
-    if count == 1 {
-        return weigh(rt, rule, gate, workers, &mut parts[0]);
-    }
-    let (first, second) = parts.split_at_mut(count / 2);
+    let half = rows.len() / 2;
+    let middle = first + half as u32;
+    let (front, back) = rows.split_at_mut(half);
     let (late, early) = join_mut(
         rt,
         &mut || -> u32
-            requires { IsSync R.row × IsSync U.row × IsSync G.row × (total second.now < 2 ^ 32)
-                × AllTaken (U.takes rule.now) second.now }
-            ensures rows { second.exit.now ≡ weighed_all (U.gives rule.entry.now) second.entry.now }
-            ensures count { result ≡ changes_all (U.gives rule.entry.now) second.entry.now }
-        { weigh_all(rt, rule, gate, workers - workers / 2, second) },
+            requires { IsSync R.row × IsSync U.row × IsSync G.row × (middle + length back.now ≤ 4096)
+                × AreTaken (U.takes rule.now) middle (rows_of back.now) }
+            ensures rows { rows_of back.exit.now
+                ≡ weighed_from (U.gives rule.entry.now) middle (rows_of back.entry.now) }
+            ensures count { result ≡ changes_from (U.gives rule.entry.now) middle (rows_of back.entry.now) }
+        { weigh(rt, rule, gate, workers - workers / 2, middle, back) },
         &mut || -> u32
-            requires { IsSync R.row × IsSync U.row × IsSync G.row × (total first.now < 2 ^ 32)
-                × AllTaken (U.takes rule.now) first.now }
-            ensures rows { first.exit.now ≡ weighed_all (U.gives rule.entry.now) first.entry.now }
-            ensures count { result ≡ changes_all (U.gives rule.entry.now) first.entry.now }
-        { weigh_all(rt, rule, gate, workers / 2, first) },
+            requires { IsSync R.row × IsSync U.row × IsSync G.row × (first + length front.now ≤ 4096)
+                × AreTaken (U.takes rule.now) first (rows_of front.now) }
+            ensures rows { rows_of front.exit.now
+                ≡ weighed_from (U.gives rule.entry.now) first (rows_of front.entry.now) }
+            ensures count { result ≡ changes_from (U.gives rule.entry.now) first (rows_of front.entry.now) }
+        { weigh(rt, rule, gate, workers / 2, first, front) },
     );
     early + late
 }

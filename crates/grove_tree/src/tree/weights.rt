@@ -3,8 +3,7 @@ ghost use Rattle.grove_base.specs.Numbers.{count_below};
 ghost use Rattle.grove_tree.specs.Trees.{weight_of};
 ghost use Rattle.grove_tree.specs.Weights.{with_weights};
 
-use crate::weighing::weigh;
-use crate::weighing_alone::weigh_alone;
+use crate::weighing::{weigh, weigh_alone};
 use crate::{Gate, OpenGate, Rule, Tree};
 use std::thread::Threads;
 
@@ -27,7 +26,7 @@ impl Tree {
         ensures count { result
             ≡ count_below (length self.old) (λ node. not (weight_of self.new node == weight_of self.old node)) }
     {
-        weigh(rt, rule, gate, workers, &mut self.root)
+        weigh(rt, rule, gate, workers, 0, &mut self.rows)
     }
 
     /// The same by the caller alone, who starts no thread.
@@ -39,6 +38,6 @@ impl Tree {
         ensures count { result
             ≡ count_below (length self.old) (λ node. not (weight_of self.new node == weight_of self.old node)) }
     {
-        weigh_alone(rule, &OpenGate, &mut self.root)
+        weigh_alone(rule, &OpenGate, 0, &mut self.rows)
     }
 }

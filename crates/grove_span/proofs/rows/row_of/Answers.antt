@@ -13,8 +13,8 @@ returns-clause-accesses c =
       first = c.requires.tells.first;
       last = c.requires.tells.last;
       from = c.requires.slots.from ∙ ap (option_map (slots_before lengths)) c.requires.tells.first
-          ∙ first_told nodes lengths c.args.step.now.node;
+          ∙ first_told nodes lengths c.args.node;
       until = c.requires.slots.until
           ∙ ap (option_map (λ access. slots_before lengths (access + 1))) c.requires.tells.last
-          ∙ last_told nodes lengths c.args.step.now.node;
+          ∙ last_told nodes lengths c.args.node;
     }

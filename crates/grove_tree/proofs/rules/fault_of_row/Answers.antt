@@ -1,6 +1,6 @@
 use Rattle.std.proofs.Common.{suc, sym, arith}
 use Rattle.grove_tree.specs.BuiltRows.{rows_of}
-use Rattle.grove_tree.proofs.Siblings.{placed_rising, placed_next}
+use Rattle.grove_tree.proofs.WellPlaced.{placed_rising, placed_next}
 use Rattle.grove_tree.proofs.rules.fault_of_row.Goals as goal
 
 pub is_row_well_placed-requires-clause-rising : goal.is_row_well_placed-requires-clause-rising
@@ -11,7 +11,3 @@ depth_of_row-requires-clause-rising c = λ low parent le own.
     placed_rising (rows_of c.args.rows.now) (suc c.args.row)
     (placed_next (rows_of c.args.rows.now) c.args.row c.requires.placed (sym c.if-not-is_row_well_placed.ensures))
     low parent (omega arith) own
-
-pub is_twice_named-requires-clause-placed : goal.is_twice_named-requires-clause-placed
-is_twice_named-requires-clause-placed c =
-    placed_next (rows_of c.args.rows.now) c.args.row c.requires.placed (sym c.if-not-is_row_well_placed.ensures)

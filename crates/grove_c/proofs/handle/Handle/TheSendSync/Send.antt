@@ -11,7 +11,8 @@ use Rattle.std.specs.Prelude.{Option, Some, None}
 use Rattle.std.specs.declared.alloc.Global.{Global}
 use Rattle.std.proofs.Crossing.{crosses, frees}
 use Rattle.std_alloc.proofs.SendSync.{quiet, lies}
-use Rattle.grove_store.proofs.Sharing.{Outline-send, Store-send}
+use Rattle.grove_tree.proofs.Sharing.{Tree-send}
+use Rattle.grove_store.proofs.Sharing.{Store-send}
 use Rattle.grove_c.specs.Handles.{handle_owns}
 use Rattle.grove_c.specs.contracts.handle.Handle.{the_row, the_type}
 use Rattle.grove_c.specs.contracts.kept.Kept as kept
@@ -20,7 +21,7 @@ use Rattle.std.proofs.alloc.Global.TheSendSync.{the_field_send as heap_send}
 
 -- a tree, or a store with its last reply
 kept_send : IsSend kept.the_row
-kept_send = search (sendable, crosses, Outline-send, Store-send) depth 60 fits 4000
+kept_send = search (sendable, crosses, Tree-send, Store-send) depth 60 fits 4000
 
 held_keyless : (a : Global) (p : Ptr) (v : Option Kept) → Keyless (handle_owns a p v)
 held_keyless a p None = tt

@@ -25,8 +25,8 @@ index_mut-requires-in-Unlock c =
     (kept_read c.args.tree.now (nodes_of c.args.list.now) c.args.plan.now c.args.position (Unlock c.in-Unlock.node) _ c.requires.within c.in-Unlock.is c.requires.faultless)).0 in
     omega (arith, c.requires.tallied.nodes)
 
-pub weight-requires-clause-within : goal.weight-requires-clause-within
-weight-requires-clause-within c =
+pub weight-requires-in-Unlock : goal.weight-requires-in-Unlock
+weight-requires-in-Unlock c =
     (unlock_kept c.args.tree.now c.args.plan.now c.args.position c.in-Unlock.node
     (kept_read c.args.tree.now (nodes_of c.args.list.now) c.args.plan.now c.args.position (Unlock c.in-Unlock.node) _ c.requires.within c.in-Unlock.is c.requires.faultless)).0
 
@@ -70,15 +70,15 @@ get-requires c =
 pub returns-in-Lock : goal.returns-in-Lock
 returns-in-Lock c =
     tally_locked c.args.tree.now (nodes_of c.args.list.now) c.args.plan.now c.args.position c.in-Lock.node c.number.result _ c.args.self.now _ c.requires.within c.in-Lock.is c.number.ensures.is_it
-    c.requires.tallied c.requires.faultless refl refl refl (ap (λ w. c.args.self.now.weight + w) (c.from.ensures ∙ c.look_up.ensures.weight)) refl c.look_up.ensures.weights
+    c.requires.tallied c.requires.faultless refl refl refl (ap (λ w. c.args.self.now.weight + w) (c.from.ensures ∙ c.weight.ensures)) refl
 
 pub returns-in-Unlock : goal.returns-in-Unlock
 returns-in-Unlock c =
     tally_unlocked c.args.tree.now (nodes_of c.args.list.now) c.args.plan.now c.args.position c.in-Unlock.node c.number-in-Unlock.result _ c.args.self.now _ c.requires.within c.in-Unlock.is
     c.number-in-Unlock.ensures.is_it c.requires.tallied c.requires.faultless refl refl refl
-    (ap (λ w. c.args.self.now.weight - w) (c.from-in-Unlock.ensures ∙ c.weight.ensures)) refl c.requires.tallied.kept
+    (ap (λ w. c.args.self.now.weight - w) (c.from-in-Unlock.ensures ∙ c.weight-in-Unlock.ensures)) refl
 
 pub returns-in-Access : goal.returns-in-Access
 returns-in-Access c =
     tally_accessed c.args.tree.now c.args.plan.now c.args.position c.in-Access.access _ c.args.self.now _ c.requires.limits c.requires.within c.in-Access.is c.requires.tallied refl refl refl refl c.requires.lengths
-    (ap (λ n. c.args.self.now.cost + c.args.self.now.weight * n) (c.from-in-Access.ensures ∙ sym (length_read c.args.list.now c.in-Access.access c.get.result c.get.ensures))) c.requires.tallied.kept
+    (ap (λ n. c.args.self.now.cost + c.args.self.now.weight * n) (c.from-in-Access.ensures ∙ sym (length_read c.args.list.now c.in-Access.access c.get.result c.get.ensures)))
