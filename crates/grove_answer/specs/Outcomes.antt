@@ -50,12 +50,9 @@ use Rattle.grove_answer.specs.declared.reading.Task.{Task}
 abbrev pub Outcome : Type 0
 Outcome = Result (List ℕ) (List ℕ)
 
-abbrev pub fault_text : Rows → Fault → List ℕ
-fault_text rows fault = (fault_said rows fault).1
-
 -- what is said of a fault: its text, up to a line feed
 abbrev pub fault_line : Rows → Fault → List ℕ
-fault_line rows fault = before_first (λ byte. byte == 10) (fault_text rows fault)
+fault_line rows fault = before_first (λ byte. byte == 10) (fault_said rows fault).1
 
 -- what may be said of what is read, or else its fault's text
 abbrev pub ThenSays : {A : Type 0} → Result A WireFault → (A → Outcome → Type 0) → Outcome → Type 0

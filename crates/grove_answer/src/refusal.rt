@@ -1,9 +1,9 @@
-ghost use Rattle.std.specs.Prelude.{◌≡◌, ℕ, List, [], IfOk, IfErr, IsErrAnd, Ok, string_bytes};
+ghost use Rattle.std.specs.Prelude.{◌≡◌, [], IfOk, IfErr, IsErrAnd, Ok, string_bytes};
 ghost use Rattle.grove_tree.specs.Trees.{Rows};
 ghost use Rattle.grove_wire.specs.declared.faults.Fault.TheVariants.{Wire};
 ghost use Rattle.grove_wire.specs.declared.faults.Fault.TheVariants.{Standing};
+ghost use Rattle.grove_wire.specs.Texts.{fault_said};
 ghost use Rattle.grove_answer.specs.Faults.{wants_memory, NamesNodes, IsToldFault};
-ghost use Rattle.grove_answer.specs.Outcomes.{fault_text};
 
 use crate::Line;
 use grove_base::NoMemory;
@@ -47,7 +47,7 @@ impl Refusal {
 
 /// The refusal for the fault, where this is its text.
 fn told(alloc: Global, fault: Fault, text: Result<String, NoMemory>) -> Refusal
-    ensures { (rows : Rows) → IfOk text (λ text. string_bytes text ≡ fault_text rows fault)
+    ensures { (rows : Rows) → IfOk text (λ text. string_bytes text ≡ (fault_said rows fault).1)
         → IsToldFault rows fault result }
 {
     if wants_memory(&fault) {
@@ -77,7 +77,7 @@ fn wants_memory(fault: &Fault) -> bool
 
 fn fault_text(alloc: Global, tree: &Tree, fault: &Fault) -> Result<String, NoMemory>
     requires { NamesNodes tree.now fault.now }
-    ensures { IfOk result (λ text. string_bytes text ≡ fault_text tree.now fault.now) }
+    ensures { IfOk result (λ text. string_bytes text ≡ (fault_said tree.now fault.now).1) }
 {
     match *fault {
         Fault::Wire(fault) => wire_fault_text(alloc, &fault),
@@ -90,7 +90,7 @@ fn fault_text(alloc: Global, tree: &Tree, fault: &Fault) -> Result<String, NoMem
 }
 
 fn standing_text(alloc: Global, fault: StandingFault) -> Result<String, NoMemory>
-    ensures { IfOk result (λ text. string_bytes text ≡ fault_text [] (Standing fault)) }
+    ensures { IfOk result (λ text. string_bytes text ≡ (fault_said [] (Standing fault)).1) }
 {
     match fault {
         StandingFault::Record(node) => Ok(format!(in alloc; "standing records {node}")?),

@@ -63,9 +63,6 @@ wire_said (Limit place) = said_of (codes "limit") (place_text place)
 wire_said (Tree fault) = tree_said fault
 wire_said Memory = named (codes "memory")
 
-abbrev pub wire_text : WireFault → List ℕ
-wire_text fault = (wire_said fault).1
-
 -- ---- faults of plans
 
 -- the node in a fault is a node of the tree
@@ -85,9 +82,6 @@ plan_said rows (plan.AccessMissing access) =
 plan_said rows (plan.StillHeld node) = (codes "still-held", codes "node " ++ path_of rows node ++ codes " still-held")
 plan_said rows plan.Memory = named (codes "memory")
 
-abbrev pub plan_text : Rows → PlanFault → List ℕ
-plan_text rows fault = (plan_said rows fault).1
-
 -- ---- faults of proofs
 
 abbrev pub ProofFaultFits : Rows → ProofFault → Type 0
@@ -105,9 +99,6 @@ proof_said rows (proof.ReleaseBalance row) = said_of (codes "release-balance") (
 proof_said rows (proof.Value sum bound) = said_of (codes "value") (decimal sum ++ (codes " " ++ signed_decimal bound))
 proof_said rows proof.Memory = named (codes "memory")
 
-abbrev pub proof_text : Rows → ProofFault → List ℕ
-proof_text rows fault = (proof_said rows fault).1
-
 -- ---- faults of runs
 
 abbrev pub RunFaultFits : Rows → RunFault → Type 0
@@ -119,9 +110,6 @@ run_said rows (run.BadPlan job fault) = plan_said rows fault
 run_said rows run.Memory = named (codes "memory")
 run_said rows run.Foreign = named (codes "foreign")
 run_said rows run.Unfinished = named (codes "unfinished")
-
-abbrev pub run_text : Rows → RunFault → List ℕ
-run_text rows fault = (run_said rows fault).1
 
 -- ---- faults of histories
 
@@ -141,9 +129,6 @@ replay_said rows (replay.BadPlan job fault) = of_thing (codes "job") job (plan_s
 replay_said rows (replay.BadEvent at fault) = of_thing (codes "event") at (event_said fault)
 replay_said rows (replay.Unfinished job) = said_of (codes "unfinished") (decimal job)
 replay_said rows replay.Memory = named (codes "memory")
-
-abbrev pub replay_text : Rows → ReplayFault → List ℕ
-replay_text rows fault = (replay_said rows fault).1
 
 -- ---- faults of documents
 

@@ -1,8 +1,8 @@
 ghost use Rattle.std.specs.Prelude.{◌≡◌, ◌<◌, IfOk, ◌++◌, codes, decimal, length, string_bytes};
 ghost use Rattle.std.specs.Fmt.{signed_decimal};
 ghost use Rattle.grove_tree.specs.Paths.{path_of};
-ghost use Rattle.grove_wire.specs.Texts.{place_text, tree_said, wire_text, plan_text, FaultFits, proof_text};
-ghost use Rattle.grove_wire.specs.Texts.{ProofFaultFits, run_text, RunFaultFits};
+ghost use Rattle.grove_wire.specs.Texts.{place_text, tree_said, wire_said, plan_said, FaultFits, proof_said};
+ghost use Rattle.grove_wire.specs.Texts.{ProofFaultFits, run_said, RunFaultFits};
 
 use crate::fault_names::{plan_fault_name, proof_fault_name, tree_fault_name, wire_fault_name};
 use crate::{Place, WireFault};
@@ -15,7 +15,7 @@ use std::alloc::Global;
 /// The text of a fault of reading: `bad-json`, `shape list 3`, `no-path plan 0`, `bad-length list 1`, `limit whole`,
 /// `tree empty`, `row 3 bad-name`, or `memory`.
 pub fn wire_fault_text(alloc: Global, fault: &WireFault) -> Result<String, NoMemory>
-    ensures { IfOk result (λ text. string_bytes text ≡ wire_text fault.now) }
+    ensures { IfOk result (λ text. string_bytes text ≡ (wire_said fault.now).1) }
 {
     let name = wire_fault_name(fault);
     match *fault {
@@ -48,7 +48,7 @@ fn tree_text(alloc: Global, fault: TreeFault) -> Result<String, NoMemory>
 /// still-held`.
 pub fn plan_fault_text(alloc: Global, tree: &Tree, fault: &PlanFault) -> Result<String, NoMemory>
     requires { FaultFits tree.now fault.now }
-    ensures { IfOk result (λ text. string_bytes text ≡ plan_text tree.now fault.now) }
+    ensures { IfOk result (λ text. string_bytes text ≡ (plan_said tree.now fault.now).1) }
 {
     let name = plan_fault_name(fault);
     match *fault {
@@ -75,7 +75,7 @@ fn still_held_text(alloc: Global, tree: &Tree, node: Node) -> Result<String, NoM
 /// The text of a proof's fault, as `rows 0`, `lock-balance 2` or `value 14 3`; a plan's fault within has its own text.
 pub fn proof_fault_text(alloc: Global, tree: &Tree, fault: &ProofFault) -> Result<String, NoMemory>
     requires { ProofFaultFits tree.now fault.now }
-    ensures { IfOk result (λ text. string_bytes text ≡ proof_text tree.now fault.now) }
+    ensures { IfOk result (λ text. string_bytes text ≡ (proof_said tree.now fault.now).1) }
 {
     let name = proof_fault_name(fault);
     match *fault {
@@ -101,7 +101,7 @@ fn value_text(alloc: Global, cost: u64, bound: i128) -> Result<String, NoMemory>
 /// The text of a run's fault, `foreign` or `unfinished`; a bad plan has the text of its fault.
 pub fn run_fault_text(alloc: Global, tree: &Tree, fault: &RunFault) -> Result<String, NoMemory>
     requires { RunFaultFits tree.now fault.now }
-    ensures { IfOk result (λ text. string_bytes text ≡ run_text tree.now fault.now) }
+    ensures { IfOk result (λ text. string_bytes text ≡ (run_said tree.now fault.now).1) }
 {
     match *fault {
         RunFault::BadPlan(_, fault) => plan_fault_text(alloc, tree, &fault),

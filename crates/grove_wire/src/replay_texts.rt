@@ -1,5 +1,5 @@
 ghost use Rattle.std.specs.Prelude.{◌≡◌, IfOk, string_bytes};
-ghost use Rattle.grove_wire.specs.Texts.{event_said, replay_text, ReplayFaultFits};
+ghost use Rattle.grove_wire.specs.Texts.{event_said, replay_said, ReplayFaultFits};
 
 use crate::fault_texts::{numbered_text, plan_fault_text, said_text, word_text};
 use grove_core::{ReplayFault, StepFault};
@@ -13,7 +13,7 @@ pub fn replay_fault_text(
     fault: &ReplayFault,
 ) -> Result<String, NoMemory>
     requires { ReplayFaultFits tree.now fault.now }
-    ensures { IfOk result (λ text. string_bytes text ≡ replay_text tree.now fault.now) }
+    ensures { IfOk result (λ text. string_bytes text ≡ (replay_said tree.now fault.now).1) }
 {
     match *fault {
         ReplayFault::BadPlan(job, fault) => {
