@@ -3,4 +3,4 @@ pub mod Refusing
 pub mod Saying
 pub mod Sharing
 pub mod Texts
-pub mod Levels
+pub mod TextLevels

@@ -74,7 +74,7 @@ pub fn file_bytes<R: Host + Files>(rt: &R, name: &str, most: usize) -> Result<Ve
 }
 
 /// The document that the bytes are for a command.
-#[tactic(auto, using(crate::proofs::Levels::shallow_document, crate::proofs::Levels::shallow_history, crate::proofs::Levels::shallow_text))]
+#[tactic(auto, using(grove_wire::proofs::Levels::shallow_document, grove_wire::proofs::Levels::shallow_history, crate::proofs::TextLevels::shallow_text))]
 pub fn read_for(alloc: Global, command: &Command<'_>, bytes: &[u8]) -> Result<Value, WireFault>
     ensures read { Gives (λ document. view document) result (document_for command.now bytes.now) }
     ensures shallow { IfOk result (λ document. depth (view document) ≤ 127) }

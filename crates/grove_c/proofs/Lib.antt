@@ -1,4 +1,3 @@
-pub mod Levels
 pub mod Tellings
 pub mod LooseValues
 pub mod HandleValues

@@ -35,7 +35,7 @@ pub fn planned_in_document(alloc: Global, bytes: &[u8]) -> Result<String, Refusa
 }
 
 /// The document that the bytes are. It nests no deeper than what can be read again.
-#[tactic(auto, using(crate::proofs::Levels::shallow))]
+#[tactic(auto, using(grove_wire::proofs::Levels::shallow_document))]
 fn read_shallow(alloc: Global, bytes: &[u8]) -> Result<Value, WireFault>
     ensures read { Gives (λ document. view document) result (document_of bytes.now) }
     ensures shallow { IfOk result (λ document. depth (view document) ≤ 127) }

@@ -22,5 +22,6 @@ pub mod Sketches
 pub mod LeastFits
 pub mod Feedless
 pub mod Tokens
+pub mod Levels
 mod RoundTexts
 mod PlannedTexts

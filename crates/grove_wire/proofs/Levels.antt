@@ -1,9 +1,9 @@
 -- What is read of bytes nests no deeper than what is read again.
 use Rattle.std.proofs.Common.{◌≡◌, ℕ, ◌≤◌, nat_lt, Bool, true, false, List, length, Option, Some, None, is_some, ap}
-use Rattle.std.proofs.Common.{arith, subst, sym, IfOk}
+use Rattle.std.proofs.Common.{IfOk}
 use Rattle.std.specs.Prelude.{Result, Ok, Err, if◌then◌else◌}
 use Rattle.std.specs.Str.{is_utf8}
-use Rattle.serde_json.specs.Data.{Data, depth, string}
+use Rattle.serde_json.specs.Data.{Data, depth}
 use Rattle.serde_json.specs.Find.{as_object}
 use Rattle.serde_json.specs.Read.{read}
 use Rattle.serde_json.proofs.Nesting.{depth-read}
@@ -14,7 +14,6 @@ use Rattle.grove_wire.specs.declared.place.Part.TheVariants.{Whole}
 use Rattle.grove_wire.specs.Outcomes.{◌>>=◌, or_fault, Gives}
 use Rattle.grove_wire.specs.Places.{whole_of}
 use Rattle.grove_wire.specs.Reading.{value_of, object_at, version_in, document_within, document_of, history_of}
-use Rattle.grove.specs.Outcomes.{text_of_table}
 
 -- a document that tells a version that there is
 abbrev versioned : Data → Result Data WireFault
@@ -34,7 +33,8 @@ past_value : (value : Option Data) (d : Data)
 past_value None d is = absurd (cc)
 past_value (Some x) d is = ap Some (past_object x d (is_some (as_object x)) is)
 
-past_limit : (test : Bool) (d : Data) (rest : Result Data WireFault)
+-- nothing is read of too many bytes
+pub past_limit : (test : Bool) (d : Data) (rest : Result Data WireFault)
     → (if test then Err (Limit (whole_of Whole)) else rest) ≡ Ok d → rest ≡ Ok d
 past_limit true d rest is = absurd (cc)
 past_limit false d rest is = is
@@ -50,18 +50,6 @@ level_within most bytes d is =
     (past_limit (nat_lt most (length bytes)) d
     ((or_fault BadJson (value_of bytes) >>= object_at (whole_of Whole)) >>= versioned) is)))
 
--- a text nests nothing
-past_utf8 : (test : Bool) (bytes : List ℕ) (d : Data)
-    → (if test then Ok (string bytes) else Err (Shape (whole_of Whole))) ≡ Ok d → d ≡ string bytes
-past_utf8 true bytes d is = cc
-past_utf8 false bytes d is = absurd (cc)
-
-level_text : (bytes : List ℕ) (d : Data) → text_of_table bytes ≡ Ok d → depth d ≤ 127
-level_text bytes d is =
-    let same : d ≡ string bytes = past_utf8 (is_utf8 bytes) bytes d
-    (past_limit (nat_lt 4194304 (length bytes)) d _ is) in
-    subst (λ (x : Data). depth x ≤ 127) (sym same) (omega arith)
-
 -- what a reader gives of them
 pub shallow_document : {T : Type 0} (seen : T → Data) (bytes : List ℕ) (result : Result T WireFault)
     → Gives seen result (document_of bytes)
@@ -69,12 +57,6 @@ pub shallow_document : {T : Type 0} (seen : T → Data) (bytes : List ℕ) (resu
 unfolding document_of
 shallow_document seen bytes (Ok x) gives = level_within 4194304 bytes (seen x) gives
 shallow_document seen bytes (Err fault) gives = tt
-
-pub shallow_text : {T : Type 0} (seen : T → Data) (bytes : List ℕ) (result : Result T WireFault)
-    → Gives seen result (text_of_table bytes)
-    → IfOk result (λ (x : T). depth (seen x) ≤ 127)
-shallow_text seen bytes (Ok x) gives = level_text bytes (seen x) gives
-shallow_text seen bytes (Err fault) gives = tt
 
 pub shallow_history : {T : Type 0} (seen : T → Data) (bytes : List ℕ) (result : Result T WireFault)
     → Gives seen result (history_of bytes)
