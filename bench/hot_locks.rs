@@ -1,8 +1,8 @@
 //! Runs jobs by `Locks` of bindings/rust, by as many workers as its argument says. Their plans are made before.
 //!
 //! The first line has the number of nodes. As many lines follow, each with a weight and a path, in the tree's order.
-//! Each line behind these has the paths that a job accesses, each for a millisecond. Printed is what bench/hot.rs
-//! prints.
+//! Each line behind these has the paths that a job accesses, each for a millisecond. The program prints
+//! what bench/hot.rs prints.
 
 use pickbracken::{List, Locks};
 use std::env;

@@ -87,7 +87,13 @@ impl<'a> Guest<'a> {
     ) {
         self.slots.metrics().count_refusal(rt, name);
         if let Some(log) = self.slots.log() {
-            self.log_refusal(rt, log, name, hint);
+            let event = Event::Refused {
+                connection: self.number,
+                line: self.lines.get().saturating_add(1),
+                name,
+                hint,
+            };
+            log.write(rt, event);
         }
     }
 
@@ -95,22 +101,6 @@ impl<'a> Guest<'a> {
     fn logged_hint(&self, alloc: Global, line: &[u8], refusal: &Refusal) -> Option<Hint> {
         let _log = self.slots.log()?;
         hint_of_refusal(alloc, self.slots.tree(), line, refusal).ok()
-    }
-
-    fn log_refusal<R: Wait + Clock + Eprint>(
-        &self,
-        rt: &R,
-        log: &Log,
-        name: &str,
-        hint: Option<&str>,
-    ) {
-        let event = Event::Refused {
-            connection: self.number,
-            line: self.lines.get().saturating_add(1),
-            name,
-            hint,
-        };
-        log.write(rt, event);
     }
 
     /// Counts and logs that the connection has ended, and why.
