@@ -1,7 +1,7 @@
 -- The first line of a text has no line feed.
-use Rattle.std.proofs.Common.{◌≡◌, ◌≢◌, ◌≤◌, ℕ, Bool, true, false, cond, not, ◌==◌, List, [], ◌∷◌, length, sym}
-use Rattle.std.proofs.Common.{subst, ap, ◌∙◌, refl, arith}
-use Rattle.std.specs.Prelude.{All, take}
+use Rattle.std.proofs.Common.{◌≡◌, ◌≢◌, ℕ, Bool, true, false, cond, not, ◌==◌, List, [], ◌∷◌, length, sym}
+use Rattle.std.proofs.Common.{subst, refl, arith}
+use Rattle.std.specs.Prelude.{All}
 use Rattle.std.specs.List.{before_first, position_or_len}
 use Rattle.std.proofs.lemmas.List.{take_all}
 use Rattle.std.proofs.lemmas.List.Elements.{All-nil, All-cons}

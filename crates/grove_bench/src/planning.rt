@@ -1,4 +1,3 @@
-ghost use Rattle.std.specs.Prelude.{◌≡◌, ◌≤◌, length, All};
 ghost use Rattle.grove_access.specs.Lists.{nodes_of, AreNodes};
 
 use crate::numbers::{next_count, next_list, next_lists, next_tree};

@@ -1,6 +1,3 @@
-ghost use Rattle.std.specs.Prelude.{◌≡◌, ◌≤◌, length};
-ghost use Rattle.grove_core.specs.Runs.{AllLegal};
-
 use crate::numbers::{next_count, next_jobs, next_tree, zeros};
 use crate::planning::tell;
 use anyhow::{Result, ensure};

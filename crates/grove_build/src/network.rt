@@ -1,4 +1,4 @@
-ghost use Rattle.std.specs.Prelude.{◌≡◌, ℕ, ◌*◌, ◌<◌, ◌≤◌, ◌++◌, ◌∷◌, [], length, map, Some, IfOk, OnOk};
+ghost use Rattle.std.specs.Prelude.{◌≡◌, ◌*◌, ◌<◌, ◌≤◌, ◌++◌, ◌∷◌, [], length, map, Some, IfOk, OnOk};
 ghost use Rattle.grove_build.specs.Networks.{bound, arc_to, part, row_arcs, arcs_from, needs_from, start_of};
 ghost use Rattle.grove_build.specs.Networks.{IsBounded, AreBounded};
 

@@ -14,7 +14,6 @@ use Rattle.grove_access.specs.Carries.{Carried, known_at, value_after, present_f
 use Rattle.grove_base.proofs.Lists.{take_next, get_set_same, get_set_other, read_at, item_there}
 use Rattle.grove_access.proofs.CarriedNodes.{known_first, known_later, settled_at, value_after-append, out_value}
 use Rattle.grove_plan.specs.declared.step.Step.{Step}
-use Rattle.grove_plan.specs.declared.step.Step.TheVariants.{Lock}
 use Rattle.grove_plan.specs.declared.step.Step.TheVariants as plan_step
 use Rattle.grove_plan.specs.Plans.{locks, unlocks}
 use Rattle.grove_core.specs.declared.job.Job.{Job}

@@ -1,7 +1,7 @@
 -- Rounds that follow one another: what they answer together, what a journal has of them, and what they lead to.
-use Rattle.std.proofs.Common.{◌≡◌, ℕ, suc, ◌+◌, ◌-◌, ◌^◌, ◌<◌, ◌≤◌, min, List, [], ◌∷◌, ◌++◌, length, map, take, drop}
+use Rattle.std.proofs.Common.{◌≡◌, ℕ, suc, ◌+◌, ◌-◌, ◌<◌, ◌≤◌, List, [], ◌∷◌, ◌++◌, length, map, take, drop}
 use Rattle.std.proofs.Common.{get_or}
-use Rattle.std.proofs.Common.{Option, Some, None, refl, sym, ap, subst, ◌∙◌, append_assoc, append-nil, inl, inr, arith}
+use Rattle.std.proofs.Common.{Option, Some, None, refl, sym, ap, subst, ◌∙◌, append-nil, inl, inr, arith}
 use Rattle.std.proofs.Common.{length-append, length-drop}
 use Rattle.std.specs.Prelude.{All, Bool, Result, Ok, Err, IsOk, OnOk, OnErr, IfSome, is_ok, is_err, false}
 use Rattle.std.specs.Prelude.{if◌then◌else◌, option_to_list}
@@ -15,7 +15,7 @@ use Rattle.std.proofs.Math.Seq.{take-add, take-length, drop-append_seam}
 use Rattle.grove_store.specs.StoreStates.{StoreState, IsSuccessor}
 use Rattle.grove_line.specs.declared.asked.Asked.{Asked}
 use Rattle.grove_desk.specs.Receipts.{ReceiptState, AreNumberedFrom, number_at}
-use Rattle.grove_desk.specs.Histories.{RoundState, IsRound, store_before, Leads, Led, IsKept, IsDeskReceipt}
+use Rattle.grove_desk.specs.Histories.{RoundState, IsRound, store_before, Leads, IsKept, IsDeskReceipt}
 use Rattle.grove_desk.specs.Histories.{receipts_in}
 use Rattle.grove_desk.specs.Ledgers.{JournalState, noted_in, noted_all, next_number, IsAccount, AreAnswered}
 use Rattle.grove_desk.specs.Ledgers.{AreAnsweredInTurn}

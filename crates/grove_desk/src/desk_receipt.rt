@@ -1,4 +1,3 @@
-ghost use Rattle.std.specs.Prelude.{◌≡◌};
 ghost use Rattle.grove_desk.specs.Histories.{IsDeskReceipt};
 
 use crate::{Opening, Receipt};

@@ -1,4 +1,4 @@
-ghost use Rattle.std.specs.Prelude.{◌≡◌, ◌≤◌, ◌<◌, sum, length, MatchOption};
+ghost use Rattle.std.specs.Prelude.{◌≡◌, ◌<◌, sum, MatchOption};
 ghost use Rattle.grove_gauge.specs.Shares.{capped, no_values, within, share_of, IsTimeWithin, IsChange};
 
 use crate::{Scale, Seconds};

@@ -1,4 +1,4 @@
-ghost use Rattle.std.specs.Prelude.{◌≡◌, ◌≤◌, ◌<◌, ℕ, length, slice_index};
+ghost use Rattle.std.specs.Prelude.{◌≡◌, ◌<◌, length, slice_index};
 ghost use Rattle.grove_gauge.specs.Scales.{IsPlaceOf, most_of, shown_at};
 
 /// The upper bound of a bucket: the greatest value that is counted in it, and the same in the unit that is shown.

@@ -4,7 +4,7 @@ use Rattle.std.proofs.Common.{Option, Some, None, option_and_then}
 use Rattle.std.specs.Prelude.{Ok}
 use Rattle.json.specs.Token.{Token}
 use Rattle.json.specs.Json as json
-use Rattle.json.specs.Json.{value, items, parse_map, after_end_array}
+use Rattle.json.specs.Json.{value, items, parse_map}
 use Rattle.json.proofs.Grammar.{value_is, value-begin_array, items_more, items_end}
 use Rattle.serde_json.specs.Data.{Num, number, string, array, Items, no_items, item}
 use Rattle.serde_json.specs.Find.{as_i64, as_u64}

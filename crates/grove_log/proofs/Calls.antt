@@ -1,5 +1,5 @@
 -- What a crash may leave from call to call, while a payload is put behind a log and while a log begins anew.
-use Rattle.std.proofs.Common.{◌≡◌, ◌⊎◌, ℕ, ◌^◌, ◌<◌, List, [], ◌∷◌, ◌++◌, length, Option, Some, refl, sym, ◌∙◌, subst}
+use Rattle.std.proofs.Common.{◌≡◌, ◌⊎◌, ℕ, ◌^◌, ◌<◌, List, ◌++◌, length, Option, Some, refl, sym, ◌∙◌, subst}
 use Rattle.std.proofs.Common.{inl, inr, ⊎_elim}
 use Rattle.grove_log.specs.Devices.{Only, Follows, Torn, Elapses, LeavesOnly}
 use Rattle.grove_log.specs.Files.{head, reading_of, recovered, StandsFor, IsWhole}

@@ -1,11 +1,11 @@
 -- What a crash leaves while a frame is put behind a file, and what a file of one frame stands for.
-use Rattle.std.proofs.Common.{◌≡◌, ◌⊎◌, append-nil, ℕ, ◌^◌, ◌<◌, ◌≤◌, Bool, true, false, ◌||◌, List, [], ◌∷◌, ◌++◌}
+use Rattle.std.proofs.Common.{◌≡◌, append-nil, ℕ, ◌^◌, ◌<◌, ◌≤◌, Bool, true, false, ◌||◌, List, [], ◌∷◌, ◌++◌}
 use Rattle.std.proofs.Common.{length}
 use Rattle.std.proofs.Common.{take, drop, Option, None, Some, refl, sym, ap, subst, ◌∙◌, append_assoc, arith, inl, inr}
-use Rattle.std.specs.Prelude.{IsTrue, codes, is_some}
+use Rattle.std.specs.Prelude.{codes, is_some}
 use Rattle.std.specs.Int.{w32, to_le_bytes}
-use Rattle.std.proofs.lemmas.Bool.{le-ltb, cases_Bool}
-use Rattle.std.proofs.lemmas.List.{take-append-drop, take_at, drop_at, take_all, drop_all, length-append}
+use Rattle.std.proofs.lemmas.Bool.{cases_Bool}
+use Rattle.std.proofs.lemmas.List.{take-append-drop, take_at, drop_at, take_all, drop_all}
 use Rattle.grove_log.specs.Frames.{digest, size, frame, size_at, frame_at, has_frame}
 use Rattle.grove_log.specs.Readings.{Reading, with_payload, reading, holds_frame, is_damaged}
 use Rattle.grove_log.specs.Files.{head, number_of, reading_of, recovered, damage_of, fault_of, StandsFor, IsWhole}
@@ -13,9 +13,9 @@ use Rattle.grove_log.specs.Devices.{Torn, Follows, Only, IsCaused, holds_any}
 use Rattle.grove_log.specs.declared.device.DeviceError.{DeviceError}
 use Rattle.grove_log.specs.declared.device.DeviceError.TheVariants.{Memory, Failed}
 use Rattle.grove_log.specs.Logs.{IsBeforeOrAfter}
-use Rattle.grove_log.proofs.Passing.{is_found, frame_again}
+use Rattle.grove_log.proofs.Passing.{frame_again}
 use Rattle.grove_log.proofs.Steps.{ended, reading_none, reading_more}
-use Rattle.grove_log.proofs.Extended.{onto, Extends, extended, IsHeaded, headed_fault, undamaged}
+use Rattle.grove_log.proofs.Extended.{onto, extended, IsHeaded, headed_fault, undamaged}
 
 pub frame_is : (before payload bytes seal own : List ℕ) → bytes ≡ size (length payload) ++ payload ++ seal
     → seal ≡ digest own payload → own ≡ before → bytes ≡ frame before payload

@@ -1,6 +1,6 @@
 -- What a file that ends with its last frame stands for, with more behind it.
-use Rattle.std.proofs.Common.{◌≡◌, ℕ, zero, suc, ◌+◌, ◌<◌, ◌≤◌, Bool, true, false, cond, ltb, eqb, ◌||◌, not, List, []}
-use Rattle.std.proofs.Common.{◌∷◌, ◌++◌, length, take, drop, Option, Some, None, refl, sym, ap, ◌∙◌, append_assoc}
+use Rattle.std.proofs.Common.{◌≡◌, ℕ, zero, suc, ◌+◌, ◌≤◌, Bool, true, false, cond, ltb, eqb, ◌||◌, not, List, []}
+use Rattle.std.proofs.Common.{◌++◌, length, take, drop, Option, Some, None, refl, sym, ap, ◌∙◌, append_assoc}
 use Rattle.std.proofs.Common.{arith}
 use Rattle.std.proofs.Common.{inl, inr}
 use Rattle.std.specs.Prelude.{codes, ◌-◌, if◌then◌else◌}
@@ -9,16 +9,16 @@ use Rattle.std.specs.List.{starts_with}
 use Rattle.std.specs.Option.{option_map_or}
 use Rattle.std.proofs.lemmas.Bool.{ltb-false, le-ltb}
 use Rattle.std.proofs.lemmas.Bool.Decides.{Decides-eqb}
-use Rattle.std.proofs.lemmas.List.{drop_all, take_all, length-append, length-drop}
+use Rattle.std.proofs.lemmas.List.{length-append, length-drop}
 use Rattle.std.proofs.lemmas.Slice.Eq.{starts_is}
 use Rattle.grove_log.specs.Frames.{digest, frame_at}
 use Rattle.grove_log.specs.Readings.{Reading, with_payload, reading, is_damaged}
-use Rattle.grove_log.specs.Files.{head, number_of, reading_of, recovered, version_of, head_fault, damage_of, fault_of}
+use Rattle.grove_log.specs.Files.{number_of, reading_of, recovered, version_of, head_fault, damage_of, fault_of}
 use Rattle.grove_log.specs.Files.{IsWhole}
 use Rattle.grove_log.specs.declared.reading.Unreadable.{Unreadable}
 use Rattle.grove_log.specs.declared.reading.Unreadable.TheVariants.{Damaged}
 use Rattle.grove_log.proofs.Passing.{is_found, frame_more, frame_less, front_more, back_more}
-use Rattle.grove_log.proofs.Steps.{ended, empty_none, reading_none, reading_more}
+use Rattle.grove_log.proofs.Steps.{empty_none, reading_none, reading_more}
 
 -- payloads that were read before
 abbrev pub onto : List (List ℕ) → Reading → Reading

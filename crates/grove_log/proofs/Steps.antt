@@ -1,12 +1,11 @@
 -- Reading goes on behind a frame that passes, and ends where none does: there all bytes are left.
-use Rattle.std.proofs.Common.{◌≡◌, ℕ, zero, suc, ◌<◌, ◌≤◌, List, [], ◌∷◌, ◌++◌, length, Option, Some, None, refl, sym}
+use Rattle.std.proofs.Common.{◌≡◌, ℕ, zero, suc, ◌≤◌, List, [], length, Option, Some, None, refl, sym}
 use Rattle.std.proofs.Common.{ap}
 use Rattle.std.proofs.Common.{◌∙◌, arith, inl, inr}
 use Rattle.std.specs.Option.{option_map_or}
-use Rattle.std.proofs.lemmas.List.{length-append}
 use Rattle.grove_log.specs.Frames.{digest, frame_at}
 use Rattle.grove_log.specs.Readings.{Reading, with_payload, read_at, reading}
-use Rattle.grove_log.proofs.Passing.{is_found, frame_more, frame_less}
+use Rattle.grove_log.proofs.Passing.{is_found, frame_less}
 
 abbrev pub ended : List ℕ → List ℕ → Reading
 ended before bytes = record { payloads = []; seal = before; rest = bytes }

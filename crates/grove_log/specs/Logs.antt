@@ -1,5 +1,5 @@
 -- A log that is open, what a crash leaves of it, and what its errors say.
-use Rattle.std.specs.Prelude.{◌≡◌, ◌⊎◌, ℕ, ◌<◌, List, [], ◌∷◌, ◌++◌, false}
+use Rattle.std.specs.Prelude.{◌≡◌, ◌⊎◌, ℕ, List, [], ◌∷◌, ◌++◌, false}
 use Rattle.grove_log.specs.Files.{reading_of, StandsFor, IsWhole}
 use Rattle.grove_log.specs.Devices.{Only, IsCaused}
 use Rattle.grove_log.specs.declared.log.Log.{Log}

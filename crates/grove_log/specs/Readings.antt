@@ -1,5 +1,5 @@
 -- Reading frames from left to right, and what stands where that ends.
-use Rattle.std.specs.Prelude.{ℕ, zero, suc, List, [], ◌∷◌, length, take, drop, Option, Some, None, Bool, false, ◌||◌}
+use Rattle.std.specs.Prelude.{ℕ, zero, suc, List, [], ◌∷◌, length, take, drop, Bool, false, ◌||◌}
 use Rattle.std.specs.Option.{option_map_or}
 use Rattle.grove_log.specs.Frames.{digest, size_at, frame_at, has_frame}
 

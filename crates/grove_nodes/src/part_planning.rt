@@ -1,4 +1,4 @@
-ghost use Rattle.std.specs.Prelude.{◌≡◌, map, IfOk, IfErr};
+ghost use Rattle.std.specs.Prelude.{◌≡◌, IfOk, IfErr};
 ghost use Rattle.grove_cut.specs.CutTrees.{plan_at_origin, flow_at_origin};
 ghost use Rattle.grove_nodes.specs.Parts.{HaveShapeOf, IsPlannedWhole, PlansPart};
 ghost use Rattle.grove_nodes.specs.PartPlans.{list_fault, tree_fault, number_in, IsNoPart, IsNoTree};

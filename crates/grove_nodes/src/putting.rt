@@ -1,5 +1,5 @@
 //! A plan with its flow, put into a caller's buffers.
-ghost use Rattle.std.specs.Prelude.{◌≡◌, length, IfOk, OnErr};
+ghost use Rattle.std.specs.Prelude.{◌≡◌, IfOk, OnErr};
 ghost use Rattle.grove_nodes.specs.Putting.{counted_of, PutsBoth, PutsIf, PutsItems};
 
 use crate::row::numbered_rows;

@@ -1,5 +1,5 @@
 //! A kept tree whose weights learn from waits.
-ghost use Rattle.std.specs.Prelude.{◌≡◌, ◌≤◌, length};
+ghost use Rattle.std.specs.Prelude.{◌≤◌, length};
 ghost use Rattle.grove_nodes.specs.Numbered.{Begins};
 ghost use Rattle.grove_nodes.specs.Weighing.{Reweighs, weights_in};
 

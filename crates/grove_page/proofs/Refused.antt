@@ -1,6 +1,6 @@
 -- What a visitor was told last says whether a body of a single line is refused.
 use Rattle.std.proofs.Common.{◌≡◌, ◌∙◌, ℕ, ◌==◌, ◌&&◌, Bool, true, false, not, List, [], ◌∷◌, ◌++◌, length, Option}
-use Rattle.std.proofs.Common.{Some, Result, Ok, Err, ap, arith, codes, inl, inr, refl, subst, sym}
+use Rattle.std.proofs.Common.{Some, Result, Ok, Err, ap, arith, inl, inr, refl, subst, sym}
 use Rattle.std.proofs.lemmas.Bool.{ne_eqb}
 use Rattle.json.specs.Print.{escape_byte}
 use Rattle.serde_json.specs.Written.{compact_text}
@@ -13,7 +13,7 @@ use Rattle.grove_desk.specs.declared.told.Told.{Told}
 use Rattle.grove_desk.specs.declared.told.Told.TheVariants.{Nothing, Accepted, Refused}
 use Rattle.grove_desk.specs.Desks.{Tells, is_accepted}
 use Rattle.grove_page.specs.declared.front.Visited.{Visited}
-use Rattle.grove_page.specs.Hints.{caller, hinted_data, CallerState, IsCallerReply, IsHinted, MayHint}
+use Rattle.grove_page.specs.Hints.{caller, hinted_data, CallerState, IsCallerReply, MayHint}
 use Rattle.grove_page.specs.Pages.{ends_refused, is_refused, Visits, VisitsDesk}
 
 -- a line feed after a reply doesn't change how it begins

@@ -1,4 +1,4 @@
-ghost use Rattle.std.specs.Prelude.{◌≡◌, ◌≤◌, length, IfOk, OnErr, Err, IfSome, IsNone, ℕ, Option, codes, string_bytes};
+ghost use Rattle.std.specs.Prelude.{◌≡◌, ◌≤◌, length, IfOk, Err, IfSome, IsNone, ℕ, Option, codes, string_bytes};
 ghost use Rattle.std.specs.Option.{option_to_list, option_map};
 ghost use Rattle.grove_page.specs.Queries.{values_beside, IsRound, ReadsAs, IsRead, NodesQuery as Asked};
 ghost use Rattle.form_urlencoded.specs.Form.{raw_pairs};

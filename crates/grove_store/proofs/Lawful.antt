@@ -1,7 +1,7 @@
 -- What makes a round lawful: of one line alone, or of batches together.
 use Rattle.std.proofs.Common.{◌≡◌, ◌⊎◌, ℕ, suc, ◌+◌, ◌-◌, ◌^◌, ◌<◌, ◌≤◌, max, List, [], ◌∷◌, length}
 use Rattle.std.proofs.Common.{take, Option, Some, None, refl, sym, ◌∙◌, ap, ap₂, subst, inl, arith}
-use Rattle.std.specs.Prelude.{option_map, option_and_then, Result, Ok, Err}
+use Rattle.std.specs.Prelude.{option_map, option_and_then, Result, Ok}
 use Rattle.std.proofs.lemmas.Option.{none-some, same_Some}
 use Rattle.serde_json.specs.Data.{Data}
 use Rattle.serde_json.specs.Written.{compact_text}

@@ -1,4 +1,4 @@
-ghost use Rattle.std.specs.Prelude.{◌≡◌, ◌↔◌, ℤ, ℕ, [], IfOk, IfErr, OnOk, IsTrue, IsUtf8, length, MatchOption};
+ghost use Rattle.std.specs.Prelude.{◌≡◌, ◌↔◌, ℤ, ℕ, IfOk, IfErr, OnOk, IsTrue, IsUtf8, MatchOption};
 ghost use Rattle.csv.specs.Records.{fields_of};
 ghost use Rattle.grove_access.specs.Effects.{fits};
 ghost use Rattle.grove_table.specs.Tables.{field_of, IsLine, IsValueIn, IsWeightIn};

@@ -1,4 +1,4 @@
-ghost use Rattle.std.specs.Prelude.{◌≡◌, ◌<◌, ◌≤◌, length, slice_get, MatchOption, Some, string_bytes};
+ghost use Rattle.std.specs.Prelude.{◌<◌, MatchOption, Some};
 ghost use Rattle.grove_table.specs.Refusals.{HasPath};
 
 /// A line of a table: a node.

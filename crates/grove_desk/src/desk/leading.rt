@@ -1,5 +1,5 @@
 //! How a caller comes to what its lines are answered: it leads rounds, or waits for who does.
-ghost use Rattle.std.specs.Prelude.{◌≡◌, ◌<◌, [], length, All, IfOk};
+ghost use Rattle.std.specs.Prelude.{◌≡◌, ◌<◌, [], All, IfOk};
 ghost use Rattle.grove_desk.specs.Histories.{IsDeskReceipt};
 ghost use Rattle.grove_desk.specs.Boards.{Takes};
 

@@ -1,4 +1,4 @@
-use Rattle.std.proofs.Common.{◌++◌, List, ℕ, length, refl, sym, ap, ◌∙◌, arith, take, drop}
+use Rattle.std.proofs.Common.{List, ℕ, length, refl, sym, ap, ◌∙◌, arith, take, drop}
 use Rattle.std.proofs.lemmas.List.{length-append, take_at, drop_at}
 use Rattle.grove_log.specs.Frames.{digest}
 use Rattle.grove_log.proofs.Passing.{sealed_is}

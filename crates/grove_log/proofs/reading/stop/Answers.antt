@@ -1,5 +1,4 @@
-use Rattle.std.proofs.Common.{sym, ◌∙◌, ap, arith}
-use Rattle.grove_log.specs.Readings.{Reading, with_payload, reading}
+use Rattle.grove_log.specs.Readings.{reading}
 use Rattle.grove_log.proofs.Passing.{frame_less}
 use Rattle.grove_log.proofs.reading.stop.Goals as goal
 
