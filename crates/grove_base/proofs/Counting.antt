@@ -202,6 +202,14 @@ passing_once n test i j x h k = elim (cases_eq i j) [
   ]
 ]
 
+-- they are few
+pub passing_few : (n : ℕ) (test : ℕ → Bool) → length (passing_below n test) ≤ n
+passing_few zero test = omega arith
+passing_few (suc n) test = elim (cases_Bool (test n)) [
+  | inl h ↦ rw h (omega (arith, passing_few n test, length-append (passing_below n test) (n ∷ [])))
+  | inr h ↦ rw h (omega (arith, passing_few n test, length-append (passing_below n test) []))
+]
+
 -- Adding up
 
 -- a sum of sums
@@ -219,16 +227,14 @@ pub sum_le : (n : ℕ) (f g : ℕ → ℕ) → ((k : ℕ) → k < n → f k ≤ 
 sum_le zero f g h = omega arith
 sum_le (suc n) f g h =
     let here : f n ≤ g n = h n (omega arith) in
-    let there : sum_below n f ≤ sum_below n g = sum_le n f g (λ k lt. h k (omega arith)) in
-    omega arith
+    omega (arith, sum_le n f g (λ k lt. h k (omega arith)))
 
 -- zeros
 pub sum_zero : (n : ℕ) (f : ℕ → ℕ) → ((k : ℕ) → k < n → f k ≡ 0) → sum_below n f ≡ 0
 sum_zero zero f h = refl
 sum_zero (suc n) f h =
     let here : f n ≡ 0 = h n (omega arith) in
-    let there : sum_below n f ≡ 0 = sum_zero n f (λ k lt. h k (omega arith)) in
-    omega arith
+    omega (arith, sum_zero n f (λ k lt. h k (omega arith)))
 
 -- a term is at most the sum
 pub sum_term : (n k : ℕ) (f : ℕ → ℕ) → k < n → f k ≤ sum_below n f

@@ -1,8 +1,10 @@
 -- Lists by their places: what is read there, joined lists and mapped ones, and lists that were written.
-use Rattle.std.proofs.Common.{◌≡◌, ℕ, zero, suc, ◌+◌, ◌<◌, ◌⊎◌, List, [], ◌∷◌, ◌++◌, length, take, get_or, Some, refl, sym, ap, inl, inr, zero-add, arith}
+use Rattle.std.proofs.Common.{◌≡◌, ℕ, zero, suc, ◌+◌, ◌<◌, ◌⊎◌, List, [], ◌∷◌, ◌++◌, length, take, get_or, Option, Some}
+use Rattle.std.proofs.Common.{None, true, false, refl, sym, ap, inl, inr, zero-add, arith}
 use Rattle.std.specs.Prelude.{map}
 use Rattle.std.proofs.Math.ListN.{set, replicate}
 use Rattle.std.specs.List.{slice_get}
+use Rattle.std.specs.Option.{is_some, is_none}
 use Rattle.std.proofs.lemmas.Option.{none-some, same_Some, slice_get_read}
 
 -- there is an item at each place of a list
@@ -14,6 +16,20 @@ item_there (x ∷ xs) (suc i) lt = item_there xs i (omega arith)
 -- an item that was read stands there
 pub read_at : {A : Type 0} (xs : List A) (i : ℕ) (x : A) → i < length xs → x ≡ get_or xs i x → slice_get xs i ≡ Some x
 read_at xs i x lt read = slice_get_read xs (length xs) i x refl lt read
+
+-- something was read, or nothing
+pub there_or_none : {A : Type 0} (o : Option A) → (o ≡ None) ⊎ ((x : A) × (o ≡ Some x))
+there_or_none None = inl refl
+there_or_none (Some x) = inr (x, refl)
+
+-- nothing was read, by either test of it
+pub none_there : {A : Type 0} (o : Option A) → is_some o ≡ false → o ≡ None
+none_there None h = refl
+none_there (Some x) h = absurd (cc)
+
+pub none_found : {A : Type 0} (o : Option A) → is_none o ≡ true → o ≡ None
+none_found None h = refl
+none_found (Some x) h = absurd (cc)
 
 -- one more item is taken
 pub take_next : {A : Type 0} (xs : List A) (i : ℕ) (x : A) → slice_get xs i ≡ Some x → take (suc i) xs ≡ take i xs ++ x ∷ []
