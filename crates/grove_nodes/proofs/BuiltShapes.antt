@@ -3,14 +3,13 @@ use Rattle.std.proofs.Common.{◌≡◌, ℕ, suc, ◌+◌, ◌<◌, ◌≤◌, 
 use Rattle.std.proofs.Common.{Some, None, refl, ap, ap₂, sym, ◌∙◌, subst, arith, inl, inr}
 use Rattle.std.specs.Prelude.{◌≢◌, Result, Ok, Err, IfErr}
 use Rattle.std.proofs.lemmas.List.{take_more}
-use Rattle.grove_base.specs.Numbers.{numbers_below}
 use Rattle.grove_tree.specs.BuiltRows.{row_of, rows_of}
 use Rattle.grove_tree.specs.Trees.{Rows, NodeRow}
 use Rattle.grove_tree.specs.Rules.{AreTreeRows}
 use Rattle.grove_tree.specs.declared.row.Row.{Row}
 use Rattle.grove_tree.specs.declared.fault.TreeFault.{TreeFault}
 use Rattle.grove_tree.specs.declared.fault.TreeFault.TheVariants.{Memory}
-use Rattle.grove_nodes.specs.Building.{number_name, told_parent, row_at, AreNamedByNumber}
+use Rattle.grove_nodes.specs.Building.{told_parent, row_at, AreNamedByNumber}
 use Rattle.grove_nodes.specs.Shapes.{HaveShape, told_parents}
 use Rattle.grove_nodes.proofs.Naming.{none_alike}
 use Rattle.grove_nodes.proofs.Shapes.{sizes}
@@ -42,11 +41,7 @@ shape_push parents weights rows p w is =
 
 pub names_push : (rows : Rows) (p w : ℕ) → AreNamedByNumber rows
     → AreNamedByNumber (rows ++ row_at (length rows) p w ∷ [])
-names_push rows p w named =
-    map_push (λ (row : NodeRow). row.name) rows (row_at (length rows) p w)
-    ∙ (ap (λ (names : List (List ℕ)). names ++ number_name (length rows) ∷ []) named
-    ∙ (sym (map_push number_name (numbers_below (length rows)) (length rows))
-    ∙ ap (λ (n : ℕ). map number_name (numbers_below n)) (sym (length_push rows (row_at (length rows) p w)))))
+names_push rows p w named = grind (arith, length_push, map_push)
 
 -- one more row is made of the next parent and weight
 module _ (parents weights : List ℕ) (place : ℕ) (rows : List Row) (row : Row) (after : List Row)
@@ -55,13 +50,11 @@ module _ (parents weights : List ℕ) (place : ℕ) (rows : List Row) (row : Row
     (pushed : after ≡ rows ++ row ∷ []) where
   grown : rows_of after
       ≡ rows_of rows ++ row_at (length (rows_of rows)) (get_or parents place 0) (get_or weights place 0) ∷ []
-  grown = ap rows_of pushed ∙ (map_push row_of rows row
-      ∙ (ap (λ (r : NodeRow). rows_of rows ++ r ∷ []) made
+  grown = ap rows_of pushed ∙ (map_push row_of rows row ∙ (ap (λ (r : NodeRow). rows_of rows ++ r ∷ []) made
       ∙ ap (λ (n : ℕ). rows_of rows ++ row_at n (get_or parents place 0) (get_or weights place 0) ∷ []) (sym many)))
 
   pub next_shape : HaveShape (take place parents) (take place weights) (rows_of rows) → place < length parents
-      → place < length weights
-      → HaveShape (take (place + 1) parents) (take (place + 1) weights) (rows_of after)
+      → place < length weights → HaveShape (take (place + 1) parents) (take (place + 1) weights) (rows_of after)
   next_shape is lt lt2 =
       subst (λ (others : Rows). HaveShape (take (place + 1) parents) (take (place + 1) weights) others) (sym grown)
       (subst (λ (ps : List ℕ). HaveShape ps (take (place + 1) weights) (rows_of rows
@@ -78,10 +71,7 @@ module _ (parents weights : List ℕ) (place : ℕ) (rows : List Row) (row : Row
       (names_push (rows_of rows) (get_or parents place 0) (get_or weights place 0) named)
 
   pub next_many : length (rows_of after) ≡ place + 1
-  next_many =
-      let long = ap (λ (others : Rows). length others) grown
-      ∙ length_push (rows_of rows) (row_at (length (rows_of rows)) (get_or parents place 0) (get_or weights place 0)) in
-      omega (arith, long, many)
+  next_many = grind (arith, grown, length_push)
 
 -- no tree has so many rows
 pub too_many : (parents weights : List ℕ) → (4096 < length parents) ⊎ (4096 < length weights) → (rows : Rows)

@@ -1,5 +1,5 @@
 -- What is put into a caller's buffers is what was asked for.
-use Rattle.std.proofs.Common.{◌≡◌, ℕ, List, ap, sym, subst}
+use Rattle.std.proofs.Common.{◌≡◌, ℕ, List, ap, sym, subst, arith}
 use Rattle.grove_tree.specs.Trees.{Rows}
 use Rattle.grove_access.specs.declared.fault.ListFault.{ListFault}
 use Rattle.grove_access.specs.declared.fault.ListFault.TheVariants.{TooLong, NoNode, BadLength, Memory}
@@ -31,14 +31,7 @@ module _ (IsPlan : List Step → List FlowRow → ℕ → Type 0) (IsReason : �
       → PutsIf planned buffers counted ended → PutsPlan IsPlan IsReason buffers counted ended
   put_so counted status.Done plan (is, holds) =
       (planned.plan, planned.flow, priced counted is plan, counts counted is, holds)
-  put_so counted status.Room plan (is, (lacks, same)) = (
-    planned.plan,
-    planned.flow,
-    priced counted is plan,
-    counts counted is,
-    lacks,
-    same,
-  )
+  put_so counted status.Room plan (is, (lacks, same)) = grind (arith, counts, priced)
   put_so counted status.Memory plan (is, same) = (is, same)
   put_so counted status.Refused plan (is, none) = absurd none
   put_so counted status.Closed plan (is, none) = absurd none
@@ -65,8 +58,7 @@ module _ (rows : Rows) (nodes lengths : List ℕ) (buffers : Buffers) where
 
 -- the same over a part
 pub puts_part : (part : List PartNode) (places lengths : List ℕ) (buffers : Buffers) (planned : Planned)
-    (counted : Counted)
-    (ended : Status) → IsPlannedWhole part places lengths planned.plan planned.flow planned.cost
+    (counted : Counted) (ended : Status) → IsPlannedWhole part places lengths planned.plan planned.flow planned.cost
     → PutsIf planned buffers counted ended → PlansPart part places lengths buffers counted ended
 puts_part part places lengths buffers planned counted ended =
     put_so (IsPlannedWhole part places lengths) (IsNoTask part places lengths) planned buffers counted ended

@@ -1,10 +1,9 @@
 -- Rows that are named by their numbers.
-use Rattle.std.proofs.Common.{◌≡◌, ℕ, zero, suc, ◌<◌, ◌≤◌, ◌^◌, nat_le, true, ◌&&◌, ◌||◌, List, [], ◌∷◌, length, map}
+use Rattle.std.proofs.Common.{◌≡◌, ℕ, zero, suc, ◌<◌, ◌≤◌, ◌^◌, true, List, [], ◌∷◌, length, map}
 use Rattle.std.proofs.Common.{decimal, slice_get, Option, Some, refl, ap, sym, ◌∙◌, subst, arith, IsTrue}
 use Rattle.std.specs.List.{list_all}
 use Rattle.std.specs.Option.{unwrap_or}
 use Rattle.std.specs.Str.Parse.{AllDigits}
-use Rattle.std.specs.Prelude.{◌==◌}
 use Rattle.std.proofs.lemmas.Bool.{lt-ltb, le-leb, and_from, or_left, or_right}
 use Rattle.std.proofs.lemmas.Option.{none-some}
 use Rattle.std.proofs.lemmas.Str.Parse.{digit_at}
@@ -28,21 +27,16 @@ name_at (row ∷ rows) (suc node) = name_at rows node
 pub name_is : (rows : Rows) → AreNamedByNumber rows → (node : ℕ) → node < length rows
     → name_of rows node ≡ number_name node
 name_is rows named node lt =
-    name_at rows node
-    ∙ (ap (λ (names : List (List ℕ)). unwrap_or (slice_get names node) []) named
+    name_at rows node ∙ (ap (λ (names : List (List ℕ)). unwrap_or (slice_get names node) []) named
     ∙ ap (λ (o : Option (List ℕ)). unwrap_or o []) (get_map number_name (numbers_below (length rows)) node node
     (numbers_get (length rows) node lt)))
 
 digit_byte : (c : ℕ) → 48 ≤ c → c ≤ 57 → is_name_byte c ≡ true
-digit_byte c low high = or_right (nat_le 97 c && nat_le c 122)
-    ((nat_le 48 c && nat_le c 57) || ((c == 95) || (c == 45)))
-    (or_left (nat_le 48 c && nat_le c 57) ((c == 95) || (c == 45)) (and_from _ _ (le-leb 48 c low) (le-leb c 57 high)))
+digit_byte c low high = grind (arith, and_from, le-leb, or_left, or_right)
 
 digits_name : (ds : List ℕ) → AllDigits 10 ds → list_all is_name_byte ds ≡ true
 digits_name [] are = refl
-digits_name (c ∷ ds) (here, rest) =
-    let range = digit_at (c ∷ ds) 0 (here, rest) (omega arith) in
-    and_from _ _ (digit_byte c range.0 range.1) (digits_name ds rest)
+digits_name (c ∷ ds) (here, rest) = grind (arith, and_from, digit_at, digit_byte, digits_name ds rest)
 
 -- a number is a name
 decimal_name : (n : ℕ) → n < 10 ^ 10 → IsTrue (is_name (decimal n))
@@ -67,10 +61,7 @@ module _ (parents weights : List ℕ) (a b : Rows) (is : HaveShape parents weigh
       → number_name first ≡ number_name second → first ≡ second
   differ_by zero second parent up up2 same = absurd (none-some parent (sym is_tree.root ∙ up))
   differ_by (suc first) zero parent up up2 same = absurd (none-some parent (sym is_tree.root ∙ up2))
-  differ_by (suc first) (suc second) parent up up2 same =
-      let lt : suc first < length b = parent_within b (suc first) parent up in
-      let lt2 : suc second < length b = parent_within b (suc second) parent up2 in
-      decimal_injective (suc first) (suc second) (omega (arith, few, lt)) (omega (arith, few, lt2)) same
+  differ_by (suc first) (suc second) parent up up2 same = grind (arith, decimal_injective, few, parent_within)
 
   -- rows that are named by their numbers are within the limits if others of their shape are
   limits_alike : IsWithinLimits b

@@ -1,9 +1,9 @@
 -- What is planned over a part is planned over each whole tree that it is cut from.
-use Rattle.std.proofs.Common.{◌≡◌, ℕ, zero, suc, ◌<◌, ◌≤◌, ◌⊎◌, List, [], ◌∷◌, length, map, slice_get, Option, Some}
-use Rattle.std.proofs.Common.{refl, ap, ap₂, sym, ◌∙◌, subst, arith, inl, inr}
+use Rattle.std.proofs.Common.{◌≡◌, ℕ, suc, ◌<◌, ◌≤◌, ◌⊎◌, List, [], ◌∷◌, length, map, slice_get, Option, Some, arith}
+use Rattle.std.proofs.Common.{refl, ap, ap₂, sym, ◌∙◌, subst, inl, inr}
 use Rattle.std.specs.Prelude.{◌≢◌, Result, Ok, Err, IfOk}
 use Rattle.std.specs.Option.{option_map, unwrap_or}
-use Rattle.grove_base.proofs.Lists.{get_map, map_length}
+use Rattle.grove_base.proofs.Lists.{get_map, map_length, item_there}
 use Rattle.grove_tree.specs.Trees.{Rows, IsTree}
 use Rattle.grove_tree.specs.Rules.{AreTreeRows}
 use Rattle.grove_tree.specs.declared.fault.TreeFault.{TreeFault}
@@ -39,12 +39,6 @@ map_alike : {A B : Type 0} (f g : A → B) (xs : List A) → ((i : ℕ) (x : A) 
 map_alike f g [] same = refl
 map_alike f g (x ∷ xs) same = ap₂ (λ y ys. y ∷ ys) (same 0 x refl) (map_alike f g xs (λ i y at. same (suc i) y at))
 
--- each place of a list has something
-there : {A : Type 0} (xs : List A) (i : ℕ) → i < length xs → (x : A) × (slice_get xs i ≡ Some x)
-there [] i lt = absurd (omega arith)
-there (x ∷ xs) zero lt = (x, refl)
-there (x ∷ xs) (suc i) lt = there xs i (omega arith)
-
 abbrev parents_of : List PartNode → List ℕ
 parents_of part = map (λ (node : PartNode). node.parent) part
 
@@ -64,7 +58,7 @@ module _ (part : List PartNode) (built : Rows) (shape : HaveShapeOf part built) 
   -- a node of the part has its number
   numbered : (node : ℕ) → node < length built → number_in part node ≡ origin node
   numbered node lt =
-      let (own, at) = there part node (subst (λ (n : ℕ). node < n) (sym size) lt) in
+      let (own, at) = item_there part node (subst (λ (n : ℕ). node < n) (sym size) lt) in
       ap (λ (o : Option PartNode). unwrap_or (option_map (λ (n : PartNode). n.number) o) node) at
       ∙ sym (is_part.numbers node own at)
 
@@ -82,8 +76,7 @@ module _ (part : List PartNode) (built : Rows) (shape : HaveShapeOf part built) 
     plan_numbered = map_alike (step_at_origin (number_in part)) (step_at_origin origin) plan step_numbered
 
     row_numbered : IsCertificate built nodes lengths flow price → (place : ℕ) (row : FlowRow)
-        → slice_get flow place ≡ Some row
-        → row_at_origin (number_in part) row ≡ row_at_origin origin row
+        → slice_get flow place ≡ Some row → row_at_origin (number_in part) row ≡ row_at_origin origin row
     row_numbered certified place row at =
         let locked : IsLockedBy plan row.node =
         (certified.balances.forced.forced row.node).0 (place, get_map node_of flow place row at) plan least.legal in
@@ -131,8 +124,7 @@ list_alike a b nodes lengths list.Memory same is = is
 
 -- a list that is refused over the part as it was built is refused over all rows of its shape
 pub list_refused : (part : List PartNode) (built : Rows) (nodes lengths : List ℕ) (why : ListFault)
-    → HaveShapeOf part built
-    → IsListFault built nodes lengths why → IsNoPart part nodes lengths (list_fault why)
+    → HaveShapeOf part built → IsListFault built nodes lengths why → IsNoPart part nodes lengths (list_fault why)
 list_refused part built nodes lengths list.Memory shape is = tt
 list_refused part built nodes lengths list.TooLong shape is =
     inr (λ rows other. (list.TooLong, (λ e. absurd (cc)), is, refl))
@@ -163,12 +155,7 @@ pub tree_refused : (part : List PartNode) (parents weights : List ℕ) (why : Tr
     → weights ≡ weights_of part
     → (why ≢ tree.Memory → (rows : Rows) → HaveShape parents weights rows → ¬ AreTreeRows rows)
     → IsNoTree part (tree_fault why)
-tree_refused part parents weights why by_parent by_weight none = elim (tree_or why) [
-  | inl e ↦ rw e tt
-  | inr (some, (place, e)) ↦ rw e (λ rows is. none some rows
-      (subst (λ (ws : List ℕ). HaveShape parents ws rows) (sym by_weight)
-      (subst (λ (ps : List ℕ). HaveShape ps (weights_of part) rows) (sym by_parent) is)))
-]
+tree_refused part parents weights why by_parent by_weight none = grind (arith, tree_or)
 
 -- a plan that got the numbers of the whole tree is one over it
 pub numbered_whole : (part : List PartNode) (built : Rows) (nodes lengths : List ℕ) (planned : Planned)

@@ -1,15 +1,15 @@
 -- The path of a node is text.
 use Rattle.std.proofs.Common.{◌≡◌, ℕ, zero, suc, ◌≤◌, List, [], ◌∷◌, length, Option, Some, None}
-use Rattle.std.proofs.Common.{refl, sym, subst, arith, inl, inr}
+use Rattle.std.proofs.Common.{refl, sym, subst, arith}
 use Rattle.std.specs.Str.{IsAscii, IsUtf8}
 use Rattle.std.proofs.lemmas.Bool.{cases_lt, and_parts}
 use Rattle.std.proofs.lemmas.Str.{IsAscii-append, IsUtf8-from_ascii}
-use Rattle.std.proofs.lemmas.Str.Ascii.{IsAscii-nil}
+use Rattle.std.proofs.lemmas.Str.Ascii.{IsAscii-nil, IsAscii-cons}
 use Rattle.grove_tree.specs.Trees.{Rows, parent_of, name_of}
 use Rattle.grove_tree.specs.Rules.{IsWithinLimits}
 use Rattle.grove_tree.specs.Paths.{names_within, name_below, or_slash, path_of, node_at}
 use Rattle.grove_tree.proofs.Paths.{node_found}
-use Rattle.grove_tree.proofs.AsciiNames.{ascii_more, ascii_bytes}
+use Rattle.grove_tree.proofs.AsciiNames.{ascii_bytes}
 
 no_row : (rows : Rows) (node : ℕ) → length rows ≤ node → name_of rows node ≡ []
 no_row [] node past = refl
@@ -19,25 +19,19 @@ no_row (row ∷ rows) (suc node) past = no_row rows node (omega arith)
 module _ (rows : Rows) (limits : IsWithinLimits rows) where
   name_ascii : (node : ℕ) → IsAscii (name_of rows node)
   name_ascii zero = subst IsAscii (sym limits.unnamed_root) IsAscii-nil
-  name_ascii (suc node) = elim (cases_lt (suc node) (length rows)) [
-    | inl lt ↦ ascii_bytes (name_of rows (suc node))
-        ((and_parts _ _ ((and_parts _ _ (limits.names node lt)).1)).1)
-    | inr past ↦ subst IsAscii (sym (no_row rows (suc node) past)) IsAscii-nil
-  ]
+  name_ascii (suc node) = grind (arith, IsAscii-nil, and_parts, ascii_bytes, cases_lt, no_row)
 
   below_ascii : (names : ℕ → List ℕ) → ((node : ℕ) → IsAscii (names node)) → (node : ℕ) (o : Option ℕ)
       → IsAscii (name_below names (name_of rows node) o)
   below_ascii names are node None = IsAscii-nil
-  below_ascii names are node (Some parent) =
-      IsAscii-append (names parent) (47 ∷ name_of rows node) (are parent)
-      (ascii_more 47 (name_of rows node) (omega arith) (name_ascii node))
+  below_ascii names are node (Some parent) = grind (arith, IsAscii-append, IsAscii-cons, name_ascii)
 
   names_ascii : (n node : ℕ) → IsAscii (names_within rows n node)
   names_ascii zero node = IsAscii-nil
   names_ascii (suc n) node = below_ascii (names_within rows n) (names_ascii n) node (parent_of rows node)
 
   slash_ascii : (names : List ℕ) → IsAscii names → IsAscii (or_slash names)
-  slash_ascii [] are = ascii_more 47 [] (omega arith) IsAscii-nil
+  slash_ascii [] are = IsAscii-cons 47 [] (omega arith) IsAscii-nil
   slash_ascii (byte ∷ bytes) are = are
 
   path_text : (node : ℕ) → IsUtf8 (path_of rows node)

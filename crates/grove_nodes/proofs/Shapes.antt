@@ -1,6 +1,6 @@
 -- Rows with the same parents and weights.
 use Rattle.std.proofs.Common.{◌≡◌, ℕ, zero, suc, ◌<◌, List, [], ◌∷◌, length, map, slice_get, Option, Some, None, refl}
-use Rattle.std.proofs.Common.{ap, sym, ◌∙◌, subst, ◌↔◌}
+use Rattle.std.proofs.Common.{ap, sym, ◌∙◌, arith}
 use Rattle.std.specs.Option.{option_map, option_and_then, unwrap_or}
 use Rattle.grove_base.proofs.Lists.{map_length}
 use Rattle.grove_tree.specs.Trees.{Rows, NodeRow, parent_of, weight_of, depth_of, depth_within, IsTree}
@@ -32,11 +32,7 @@ told_length (first ∷ parents) = ap suc (map_length Some parents)
 -- there are as many rows as parents, and as weights
 pub sizes : (parents weights : List ℕ) (rows : Rows) → HaveShape parents weights rows
     → (length parents ≡ length rows) × (length weights ≡ length rows)
-sizes parents weights rows is = (
-  sym (told_length parents) ∙ (ap (λ (os : List (Option ℕ)). length os) (sym is.by_parents)
-      ∙ map_length (λ (row : NodeRow). row.parent) rows),
-  ap (λ (ws : List ℕ). length ws) (sym is.by_weights) ∙ map_length (λ (row : NodeRow). row.weight) rows,
-)
+sizes parents weights rows is = grind (arith, map_length, told_length)
 
 module _ (parents weights : List ℕ) (a b : Rows) (is : HaveShape parents weights a)
     (other : HaveShape parents weights b) where
@@ -44,25 +40,14 @@ module _ (parents weights : List ℕ) (a b : Rows) (is : HaveShape parents weigh
   same_length = sym ((sizes parents weights a is).0) ∙ (sizes parents weights b other).0
 
   pub same_parent : (node : ℕ) → parent_of a node ≡ parent_of b node
-  same_parent node = parent_at a node
-      ∙ (ap (λ (os : List (Option ℕ)). option_and_then (λ (o : Option ℕ). o) (slice_get os node))
-      (is.by_parents ∙ sym other.by_parents)
-      ∙ sym (parent_at b node))
+  same_parent node = grind (arith, parent_at)
 
   pub same_weight : (node : ℕ) → weight_of a node ≡ weight_of b node
-  same_weight node = weight_at a node
-      ∙ (ap (λ (ws : List ℕ). unwrap_or (slice_get ws node) 0) (is.by_weights ∙ sym other.by_weights)
-      ∙ sym (weight_at b node))
+  same_weight node = grind (arith, weight_at)
 
   -- what is cut from a tree may have other names
   pub cut_alike : (whole : Rows) (origin : ℕ → ℕ) → IsCut whole a origin → IsCut whole b origin
-  cut_alike whole origin cut = record {
-    some = subst (λ (n : ℕ). 0 < n) same_length cut.some;
-    rises = cut.rises;
-    within = λ node. subst (λ (n : ℕ). node < n ↔ origin node < length whole) same_length (cut.within node);
-    parents = λ node. cut.parents node ∙ ap (option_map origin) (same_parent node);
-    weights = λ node. cut.weights node ∙ same_weight node;
-  }
+  cut_alike whole origin cut = grind (arith, same_length, same_parent, same_weight)
 
 map_itself : (o : Option ℕ) → o ≡ option_map (λ (n : ℕ). n) o
 map_itself None = refl
@@ -70,13 +55,7 @@ map_itself (Some n) = refl
 
 -- rows are cut from themselves
 pub cut_itself : (rows : Rows) → 0 < length rows → IsCut rows rows (λ (n : ℕ). n)
-cut_itself rows some = record {
-  some = some;
-  rises = λ a b lt. lt;
-  within = λ node. (λ lt. lt, λ lt. lt);
-  parents = λ node. map_itself (parent_of rows node);
-  weights = λ node. refl;
-}
+cut_itself rows some = grind (arith, map_itself)
 
 module _ (parents weights : List ℕ) (a b : Rows) (is : HaveShape parents weights a)
     (other : HaveShape parents weights b) (tree : IsTree a) where

@@ -31,13 +31,7 @@ beyond_at n place found (node ∷ nodes) is = elim (cases_lt node n) [
 ]
 
 not_length : (slots : ℕ) → is_length slots ≡ false → (slots < 1) ⊎ (1000 < slots)
-not_length slots bad = elim (cases_lt slots 1) [
-  | inl small ↦ inl small
-  | inr some ↦ elim (cases_lt 1000 slots) [
-    | inl large ↦ inr large
-    | inr fits ↦ absurd (cc (sym bad ∙ and_from _ _ (le-leb 1 slots some) (le-leb slots 1000 fits)))
-  ]
-]
+not_length slots bad = grind (arith, and_from, cases_lt, le-leb)
 
 -- at the place that is found stands a length that is none
 bad_at : (place found : ℕ) (lengths : List ℕ) → first_bad_length place lengths ≡ Some found
@@ -55,59 +49,32 @@ bad_at place found (slots ∷ lengths) is = elim (cases_Bool (is_length slots)) 
 
 no_node : (rows : Rows) (nodes lengths : List ℕ) (place : ℕ) → first_beyond (length rows) 0 nodes ≡ Some place
     → IsListFault rows nodes lengths (NoNode place)
-no_node rows nodes lengths place is =
-    let (i, node, at, there, far) = beyond_at (length rows) 0 place nodes is in
-    let same : i ≡ place = omega (arith, at) in
-    let here : slice_get nodes place ≡ Some node = subst (λ (k : ℕ). slice_get nodes k ≡ Some node) same there in (
-      inl (slice_get_within nodes place node here),
-      λ other is_other. subst (λ (k : ℕ). length rows ≤ k) (same_Some node other (sym here ∙ is_other)) far,
-    )
+no_node rows nodes lengths place is = grind (arith, beyond_at, same_Some, slice_get_within)
 
 bad_length : (rows : Rows) (nodes lengths : List ℕ) (place : ℕ) → first_bad_length 0 lengths ≡ Some place
     → IsListFault rows nodes lengths (BadLength place)
-bad_length rows nodes lengths place is =
-    let (i, slots, at, there, bad) = bad_at 0 place lengths is in
-    let same : i ≡ place = omega (arith, at) in
-    let here : slice_get lengths place ≡ Some slots =
-    subst (λ (k : ℕ). slice_get lengths k ≡ Some slots) same there in (
-      inr (slice_get_within lengths place slots here),
-      λ other is_other. subst (λ (k : ℕ). (k < 1) ⊎ (1000 < k)) (same_Some slots other (sym here ∙ is_other)) bad,
-    )
-
-same_fault : (fault other : ListFault) → Some fault ≡ Some other → fault ≡ other
-same_fault fault other is = cc
+bad_length rows nodes lengths place is = grind (arith, bad_at, same_Some, slice_get_within)
 
 by_places : (rows : Rows) (nodes lengths : List ℕ) (beyond bad : Option ℕ) (fault : ListFault)
     → first_beyond (length rows) 0 nodes ≡ beyond → first_bad_length 0 lengths ≡ bad
     → option_or (option_map NoNode beyond) (option_map BadLength bad) ≡ Some fault
     → IsListFault rows nodes lengths fault
-by_places rows nodes lengths (Some place) bad fault beyond_is bad_is is =
-    subst (λ (f : ListFault). IsListFault rows nodes lengths f) (same_fault (NoNode place) fault is)
-    (no_node rows nodes lengths place beyond_is)
+by_places rows nodes lengths (Some place) bad fault beyond_is bad_is is = grind (arith, no_node, same_Some)
 by_places rows nodes lengths None (Some place) fault beyond_is bad_is is =
-    subst (λ (f : ListFault). IsListFault rows nodes lengths f) (same_fault (BadLength place) fault is)
+    subst (λ (f : ListFault). IsListFault rows nodes lengths f) (same_Some (BadLength place) fault is)
     (bad_length rows nodes lengths place bad_is)
 by_places rows nodes lengths None None fault beyond_is bad_is is = absurd (cc)
 
 -- the first fault of accesses is one of their nodes and lengths
 fault_told : (rows : Rows) (accesses : List Access) (fault : ListFault) → length accesses ≤ 64
     → list_fault_of rows accesses ≡ Some fault → IsListFault rows (nodes_of accesses) (lengths_of accesses) fault
-fault_told rows accesses fault few is =
-    let nodes = nodes_of accesses in
-    let lengths = lengths_of accesses in
-    let by_place = option_or (option_map NoNode (first_beyond (length rows) 0 nodes))
-    (option_map BadLength (first_bad_length 0 lengths)) in
-    by_places rows nodes lengths (first_beyond (length rows) 0 nodes) (first_bad_length 0 lengths) fault refl refl
-    (sym (cond-false (nat_lt 64 (length accesses)) (Some TooLong) by_place (le-ltb 64 (length accesses) few)) ∙ is)
+fault_told rows accesses fault few is = grind (arith, by_places, cond-false, le-ltb)
 
 told : (rows : Rows) (accesses : List Access) (nodes lengths : List ℕ) (fault : ListFault) → nodes_of accesses ≡ nodes
     → lengths_of accesses ≡ lengths → length nodes ≤ 64
     → (fault ≢ Memory → list_fault_of rows accesses ≡ Some fault) → IsListFault rows nodes lengths fault
 told rows accesses nodes lengths Memory by_node by_length few is = tt
-told rows accesses nodes lengths TooLong by_node by_length few is =
-    rw (← by_node, ← by_length) (fault_told rows accesses TooLong
-    (subst (λ (n : ℕ). n ≤ 64) (nodes_length accesses) (subst (λ (xs : List ℕ). length xs ≤ 64) (sym by_node) few))
-    (is (λ e. absurd (cc))))
+told rows accesses nodes lengths TooLong by_node by_length few is = grind (arith, fault_told, nodes_length)
 told rows accesses nodes lengths (NoNode place) by_node by_length few is =
     rw (← by_node, ← by_length) (fault_told rows accesses (NoNode place)
     (subst (λ (n : ℕ). n ≤ 64) (nodes_length accesses) (subst (λ (xs : List ℕ). length xs ≤ 64) (sym by_node) few))
@@ -123,6 +90,4 @@ pub refused : {T : Type 0} (rows : Rows) (passed accesses : List Access) (nodes 
     → length nodes ≤ 64 → IfErr result (λ fault. fault ≢ Memory → list_fault_of rows passed ≡ Some fault)
     → IfErr result (IsListFault rows nodes lengths)
 refused rows passed accesses nodes lengths (Ok list) same by_node by_length few is = tt
-refused rows passed accesses nodes lengths (Err fault) same by_node by_length few is =
-    told rows accesses nodes lengths fault by_node by_length few
-    (λ some. subst (λ (list : List Access). list_fault_of rows list ≡ Some fault) same (is some))
+refused rows passed accesses nodes lengths (Err fault) same by_node by_length few is = grind (arith, told)

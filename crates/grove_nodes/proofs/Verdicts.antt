@@ -1,5 +1,5 @@
 -- What is told of steps and rows that are checked or judged.
-use Rattle.std.proofs.Common.{◌≡◌, ℕ, ◌⊎◌, List, Some, refl, sym, subst, inl, inr}
+use Rattle.std.proofs.Common.{◌≡◌, ℕ, ◌⊎◌, List, Some, refl, inl, inr, arith}
 use Rattle.std.specs.Prelude.{◌≢◌}
 use Rattle.grove_tree.specs.Trees.{Rows}
 use Rattle.grove_access.specs.declared.fault.ListFault.{ListFault}
@@ -46,19 +46,12 @@ module _ (rows : Rows) (nodes lengths : List ℕ) where
 
   -- there is no list to check
   pub list_unchecked : (plan : List Step) (flow : List FlowRow) (fault : ListFault)
-      → IsListFault rows nodes lengths fault
-      → Checks rows nodes lengths plan flow (list_told fault) (list_status fault)
-  list_unchecked plan flow fault is = elim (list_or fault) [
-    | inl e ↦ rw e refl
-    | inr (some, ended) ↦ rw ended (inl (refusal fault some is))
-  ]
+      → IsListFault rows nodes lengths fault → Checks rows nodes lengths plan flow (list_told fault) (list_status fault)
+  list_unchecked plan flow fault is = grind (arith, list_or, refusal)
 
   pub list_unjudged : (plan : List Step) (fault : ListFault) → IsListFault rows nodes lengths fault
       → Judges rows nodes lengths plan (list_told fault) (list_status fault)
-  list_unjudged plan fault is = elim (list_or fault) [
-    | inl e ↦ rw e refl
-    | inr (some, ended) ↦ rw ended (inl (refusal fault some is))
-  ]
+  list_unjudged plan fault is = grind (arith, list_or, refusal)
 
   -- a list is checked, or judged
   pub list_checked : (plan : List Step) (flow : List FlowRow) (checked : Checked) (ended : Status)
@@ -81,10 +74,7 @@ module _ (rows : Rows) (nodes lengths : List ℕ) where
   pub plan_unjudged : (steps : List Step) (fault : PlanFault)
       → (fault ≢ plan.Memory → plan_fault_of rows nodes steps ≡ Some fault)
       → JudgesList rows nodes lengths steps (plan_told fault) (plan_status fault)
-  plan_unjudged steps fault is = elim (plan_or fault) [
-    | inl e ↦ rw e refl
-    | inr (some, ended) ↦ rw ended (fault, some, is some, refl)
-  ]
+  plan_unjudged steps fault is = grind (arith, plan_or)
 
   plan_unchecked : (steps : List Step) (flow : List FlowRow) (fault : PlanFault)
       → IsFault rows nodes lengths steps flow (proof.Plan fault)
@@ -125,8 +115,4 @@ module _ (rows : Rows) (nodes lengths : List ℕ) where
       → (fault ≢ proof.Memory → IsFault rows nodes lengths made made_flow fault)
       → ChecksList rows nodes lengths steps flow checked ended
   proposal_unchecked made steps made_flow flow fault checked ended same same_flow told told_so is =
-      subst (λ (c : Checked). ChecksList rows nodes lengths steps flow c ended) (sym told)
-      (subst (λ (s : Status). ChecksList rows nodes lengths steps flow (proof_told fault) s) (sym told_so)
-      (proof_unchecked steps flow fault (λ some.
-      subst (λ (rs : List FlowRow). IsFault rows nodes lengths steps rs fault) same_flow
-      (subst (λ (ss : List Step). IsFault rows nodes lengths ss made_flow fault) same (is some)))))
+      grind (arith, proof_unchecked)

@@ -13,8 +13,7 @@ told_parent zero parent = None
 told_parent (suc place) parent = Some parent
 
 abbrev pub row_at : ℕ → ℕ → ℕ → NodeRow
-row_at place parent weight =
-    record { parent = told_parent place parent; name = number_name place; weight = weight }
+row_at place parent weight = record { parent = told_parent place parent; name = number_name place; weight = weight }
 
 abbrev pub AreNamedByNumber : Rows → Type 0
 AreNamedByNumber rows = map (λ row. row.name) rows ≡ map number_name (numbers_below (length rows))

@@ -11,8 +11,7 @@ use Rattle.grove_nodes.specs.Planning.{AreUntouched, Buffers, HoldBoth, LackRoom
 
 -- the counts of a plan and its flow
 abbrev pub counted_of : Planned → Counted
-counted_of planned =
-    record { cost = planned.cost; steps = length planned.plan; rows = length planned.flow; place = 0 }
+counted_of planned = record { cost = planned.cost; steps = length planned.plan; rows = length planned.flow; place = 0 }
 
 -- a plan and its flow are put, or have no room
 abbrev pub PutsBoth : Planned → Buffers → Counted → Status → Type 0
