@@ -1,12 +1,11 @@
 -- A node that has a line's path, weight and value.
-use Rattle.std.proofs.Common.{◌≡◌, ◌<◌, ◌∙◌, ap, subst, sym, List, ℕ, ℤ, length, Option, Some}
-use Rattle.std.proofs.Common.{slice_get, string_bytes, unwrap_or}
+use Rattle.std.proofs.Common.{◌≡◌, ◌<◌, List, ℕ, ℤ, length, Some, arith, slice_get, string_bytes}
 use Rattle.grove_access.specs.Effects.{record_at}
 use Rattle.grove_tree.specs.Paths.{path_of}
 use Rattle.grove_tree.specs.Trees.{Rows, weight_of}
 use Rattle.grove_table.specs.declared.line.Line.{Line}
 use Rattle.grove_table.specs.Confirming.{HasNode}
-use Rattle.grove_table.specs.Tables.{IsNodeOf, IsOfLine}
+use Rattle.grove_table.specs.Tables.{IsOfLine}
 
 -- a node with a line's path, weight and value is that line's
 pub node_found : (tree : Rows) (records : List ℤ) (lines : List Line) (place : ℕ) (line : Line) (node : ℕ)
@@ -19,9 +18,4 @@ node_found tree records lines place line node at within path weight value =
 pub node_had : (tree : Rows) (records : List ℤ) (lines : List Line) (place : ℕ) (line : Line) (node : ℕ)
     → slice_get lines place ≡ Some line → node < length tree → path_of tree node ≡ string_bytes line.path
     → weight_of tree node ≡ line.weight → record_at records node ≡ line.value → HasNode tree records lines place
-node_had tree records lines place line node at within path weight value other same =
-    let one : line ≡ other = ap (λ (found : Option Line). unwrap_or found line) (sym at ∙ same) in (
-      node,
-      subst (λ l. IsNodeOf tree records l node) one
-          (record { within = within; path = path; weight = weight; value = value }),
-    )
+node_had tree records lines place line node at within path weight value other same = grind (arith)

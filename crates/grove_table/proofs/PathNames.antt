@@ -3,9 +3,8 @@ use Rattle.std.proofs.Common.{◌≡◌, ◌≢◌, ℕ, suc, ◌+◌, ◌<◌, 
 use Rattle.std.proofs.Common.{length, refl, sym, ◌∙◌, ap, subst, inl, inr, arith, true≢false, count_by, cond}
 use Rattle.std.specs.Prelude.{flat_map, nat_lt}
 use Rattle.std.specs.List.{list_all}
-use Rattle.std.proofs.lemmas.Bool.{and_parts, and_from, cases_Bool, cond-true, cond-false, ltb-true, lt-ltb}
-use Rattle.std.proofs.lemmas.Bool.{leb-true, le-leb}
-use Rattle.std.proofs.lemmas.Bool.{eqb-true, ne_eqb}
+use Rattle.std.proofs.lemmas.Bool.{and_parts, and_from, cases_Bool, cond-true, cond-false, ltb-true, lt-ltb, leb-true}
+use Rattle.std.proofs.lemmas.Bool.{le-leb, eqb-true, ne_eqb}
 use Rattle.std.proofs.lemmas.List.Sums.{sum_by-cons}
 use Rattle.grove_tree.specs.Rules.{is_name_byte, is_name}
 use Rattle.grove_table.specs.PathScans.{are_names_after, has_names, IsPath}
@@ -82,10 +81,7 @@ name_passed n (byte ∷ first) rest ok few there =
 -- a name's bytes, and how many
 name_parts : (name : List ℕ) → is_name name ≡ true
     → (list_all is_name_byte name ≡ true) × (0 < length name) × (length name ≤ 32)
-name_parts name h =
-    let (some, more) = and_parts _ _ h in
-    let (few, bytes) = and_parts _ _ more in
-    (bytes, ltb-true 0 (length name) some, leb-true (length name) 32 few)
+name_parts name h = grind (arith, and_parts, leb-true, ltb-true)
 
 names_passed : (n : ℕ) (names : List (List ℕ)) → 0 < n → list_all is_name names ≡ true
     → are_names_after n (flat_map after_slash names) ≡ true
@@ -112,14 +108,7 @@ names_had (byte ∷ bytes) e =
 -- and one that has names is passed, unless it is a slash
 had_names : (names : List (List ℕ)) (path : List ℕ) → IsPathWith names path → path ≢ 47 ∷ [] → has_names path ≡ true
 had_names [] path is more = absurd (more is.0)
-had_names (name ∷ names) path is more =
-    let (here, there) = and_parts (is_name name) (list_all is_name names) is.1 in
-    let parts : (list_all is_name_byte name ≡ true) × (0 < length name) × (length name ≤ 32) = name_parts name here in
-    let e : 0 + length name ≡ length name = omega arith in
-    subst (λ (bytes : List ℕ). has_names bytes ≡ true) (sym is.0)
-    (name_passed 0 name (flat_map after_slash names) parts.0 (omega (arith, parts.2))
-    (subst (λ (m : ℕ). are_names_after m (flat_map after_slash names) ≡ true) (sym e)
-    (names_passed (length name) names parts.1 there)))
+had_names (name ∷ names) path is more = grind (arith, and_parts, name_parts, name_passed, names_passed)
 
 pub no_names : (path : List ℕ) → has_names path ≡ false → path ≢ 47 ∷ [] → ¬ IsPath path
 no_names path e more is = true≢false (sym (had_names is.0 path is.1 more) ∙ e)
@@ -160,17 +149,11 @@ path_counted (name ∷ names) path is more = ap slashes is.0 ∙ names_counted (
 
 pub names_deep : (path : List ℕ) → has_names path ≡ true → path ≢ 47 ∷ [] → 32 < slashes path
     → (names : List (List ℕ)) × IsPathWith names path × (32 < length names)
-names_deep path e more deep =
-    let is : IsPath path = names_had path e in
-    let same : slashes path ≡ length is.0 = path_counted is.0 path is.1 more in
-    (is.0, is.1, subst (λ (n : ℕ). 32 < n) same deep)
+names_deep path e more deep = grind (arith, names_had, path_counted)
 
 pub names_few : (path : List ℕ) → has_names path ≡ true → path ≢ 47 ∷ [] → slashes path ≤ 32
     → (names : List (List ℕ)) × IsPathWith names path × (length names ≤ 32)
-names_few path e more few =
-    let is : IsPath path = names_had path e in
-    let same : slashes path ≡ length is.0 = path_counted is.0 path is.1 more in
-    (is.0, is.1, subst (λ (n : ℕ). n ≤ 32) same few)
+names_few path e more few = grind (arith, names_had, path_counted)
 
 -- the root's path has no names
 pub root_named : (path : List ℕ) → path ≡ 47 ∷ [] → (names : List (List ℕ)) × IsPathWith names path

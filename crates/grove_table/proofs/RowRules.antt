@@ -1,6 +1,6 @@
 -- The first rule that the fields of a row break.
-use Rattle.std.proofs.Common.{◌≡◌, ℕ, zero, suc, ◌<◌, ◌≤◌, List, [], ◌∷◌, ◌++◌, length, refl, sym, ◌∙◌, subst, arith}
-use Rattle.std.proofs.Common.{None, Some, IsUtf8}
+use Rattle.std.proofs.Common.{◌≡◌, ℕ, zero, suc, ◌<◌, ◌≤◌, List, [], ◌∷◌, ◌++◌, length, refl, sym, subst, arith}
+use Rattle.std.proofs.Common.{None, Some, IsUtf8, rules}
 use Rattle.std.proofs.lemmas.Str.{IsUtf8-nil}
 use Rattle.csv.specs.Records.{field_at}
 use Rattle.grove_table.specs.declared.fault.Reason.{Reason}
@@ -18,10 +18,7 @@ use Rattle.grove_table.proofs.PathNames.{not_deep}
 pub row_refused : (fields : List (List ℕ)) (number : ℕ) (rule : Reason) (about : List ℕ) (fault : TableFault)
     → Tells number rule about fault → IsFirstBroken fields rule → about ≡ about_of fields rule → IsRowFault fields fault
 row_refused fields number rule about Memory tells broken is = tt
-row_refused fields number rule about (Line fault) tells broken is = (
-  subst (λ (r : Reason). IsFirstBroken fields r) (sym tells.1) broken,
-  tells.2 ∙ is ∙ subst (λ (r : Reason). about_of fields rule ≡ about_of fields r) (sym tells.1) refl,
-)
+row_refused fields number rule about (Line fault) tells broken is = grind (arith)
 row_refused fields number rule about Empty tells broken is = tells
 row_refused fields number rule about Unlike tells broken is = tells
 
@@ -94,16 +91,7 @@ path_rules = BadFields ∷ NotText ∷ BadName ∷ TooDeep ∷ []
 
 path_kept : (fields : List (List ℕ)) (rules : List Reason) → length fields ≤ 3 → ¬ Breaks fields NotText
     → PathIs (field_of fields 0) None → KeepsAll fields rules → KeepsAll fields (path_rules ++ rules)
-path_kept fields rules few text is kept = (
-  λ more. absurd (omega arith),
-  (
-    text,
-    (
-      λ none. none is.0 is.1,
-      (λ deep. not_deep (field_of fields 0) is.0 deep.0 is.1 deep.1 is.2 deep.2, kept),
-    ),
-  ),
-)
+path_kept fields rules few text is kept = grind (arith, not_deep)
 
 -- then the weight
 pub weight_broken : (fields : List (List ℕ)) → length fields ≤ 3 → ¬ Breaks fields NotText

@@ -1,17 +1,17 @@
 -- Lines that no tree has room for: planted paths, and why a line is refused.
 use Rattle.std.proofs.Common.{◌≡◌, ◌∙◌, ◌<◌, ◌≤◌, ◌+◌, ◌-◌, ℕ, zero, suc, Bool, true, false, List, [], ◌∷◌, ◌++◌}
-use Rattle.std.proofs.Common.{Some, ap, append-nil, arith, bytes_eq, fold, inl, inr, length, length-append, map}
-use Rattle.std.proofs.Common.{refl, slice_get, string_bytes, subst, sym, take}
+use Rattle.std.proofs.Common.{length-append, Some, ap, append-nil, arith, bytes_eq, fold, inl, inr, length, map, refl}
+use Rattle.std.proofs.Common.{slice_get, string_bytes, subst, sym, take}
 use Rattle.std.specs.Prelude.{MatchOption, None, Option, flat_map, is_some}
 use Rattle.std.specs.List.{list_any}
-use Rattle.std.proofs.lemmas.Bool.{cases_Bool, cases_eq, cond-false, cond-true, false_from_ne_true, or_from}
+use Rattle.std.proofs.lemmas.Bool.{cases_Bool, cases_eq, false_from_ne_true, or_from, cond-false, cond-true}
 use Rattle.std.proofs.lemmas.Bool.{or_left, or_right}
 use Rattle.std.proofs.lemmas.List.{map-append}
 use Rattle.std.proofs.lemmas.List.Concat.{flat_map-append}
 use Rattle.std.proofs.lemmas.List.Sums.{fold-append}
 use Rattle.std.proofs.lemmas.Option.{same_Some}
 use Rattle.std.proofs.lemmas.Slice.Eq.{bytes_eq-Decides}
-use Rattle.grove_base.specs.Numbers.{alone, passing_below}
+use Rattle.grove_base.specs.Numbers.{passing_below}
 use Rattle.grove_base.proofs.Lists.{take_next}
 use Rattle.grove_table.specs.declared.fault.Reason.{Reason}
 use Rattle.grove_table.specs.declared.fault.Reason.TheVariants.{NoParent, TwiceNamed}
@@ -45,11 +45,8 @@ none_planted (sprout ∷ sprouts) path none = or_from _ _
 pub one_planted : (sprouts : List Sprout) (path : List ℕ) (at : ℕ) (sprout : Sprout)
     → slice_get sprouts at ≡ Some sprout → sprout.path.now ≡ path → list_any (same_as path) (paths_of sprouts) ≡ true
 one_planted [] path at sprout is same = absurd (cc)
-one_planted (first ∷ sprouts) path zero sprout is same =
-    let e : first ≡ sprout = same_Some first sprout is in
-    or_left _ _ ((bytes_eq-Decides first.path.now path).1 (ap (λ (s : Sprout). s.path.now) e ∙ same))
-one_planted (first ∷ sprouts) path (suc at) sprout is same =
-    or_right _ _ (one_planted sprouts path at sprout is same)
+one_planted (first ∷ sprouts) path zero sprout is same = grind (arith, bytes_eq-Decides, or_left, same_Some)
+one_planted (first ∷ sprouts) path (suc at) sprout is same = or_right _ _ (one_planted sprouts path at sprout is same)
 
 pub with_known : (paths : List (List ℕ)) (path : List ℕ) → list_any (same_as path) paths ≡ true
     → with_path paths path ≡ paths
@@ -58,14 +55,6 @@ with_known paths path known = cond-true _ _ _ known
 pub with_new : (paths : List (List ℕ)) (path : List ℕ) → list_any (same_as path) paths ≡ false
     → with_path paths path ≡ paths ++ path ∷ []
 with_new paths path new = cond-false _ _ _ new
-
--- one more node
-pub planted_one : (sprouts : List Sprout) (sprout : Sprout)
-    → list_any (same_as sprout.path.now) (paths_of sprouts) ≡ false
-    → paths_of (sprouts ++ sprout ∷ []) ≡ with_path (paths_of sprouts) sprout.path.now
-planted_one sprouts sprout new =
-    map-append (λ (s : Sprout). s.path.now) sprouts (sprout ∷ [])
-    ∙ sym (with_new (paths_of sprouts) sprout.path.now new)
 
 -- planting takes none away
 with_grows : (paths : List (List ℕ)) (path : List ℕ) → length paths ≤ length (with_path paths path)
@@ -76,30 +65,16 @@ with_grows paths path = elim (cases_Bool (list_any (same_as path) paths)) [
       omega (arith, e, length-append paths (path ∷ []))
 ]
 
-fold_grows : (paths more : List (List ℕ)) → length paths ≤ length (fold with_path paths more)
-fold_grows paths [] = omega arith
-fold_grows paths (path ∷ more) =
-    let one : length paths ≤ length (with_path paths path) = with_grows paths path in
-    let rest : length (with_path paths path) ≤ length (fold with_path (with_path paths path) more) =
-    fold_grows (with_path paths path) more in
-    omega (arith, one, rest)
-
 -- ---- the paths at and above a line's, one after the other
 
 abbrev pub before : List ℕ → ℕ → List (List ℕ)
 before path n = map (λ place. take place path) (passing_below n (ends_path path))
 
 before_yes : (path : List ℕ) (n : ℕ) → ends_path path n ≡ true → before path (suc n) ≡ before path n ++ take n path ∷ []
-before_yes path n ends =
-    let one : alone (ends_path path n) n ≡ n ∷ [] = ap (λ (b : Bool). alone b n) ends in
-    map-append (λ (place : ℕ). take place path) (passing_below n (ends_path path)) (alone (ends_path path n) n)
-    ∙ ap (λ (ns : List ℕ). before path n ++ map (λ (place : ℕ). take place path) ns) one
+before_yes path n ends = grind (arith, map-append)
 
 before_no : (path : List ℕ) (n : ℕ) → ends_path path n ≡ false → before path (suc n) ≡ before path n ++ []
-before_no path n miss =
-    let none : alone (ends_path path n) n ≡ [] = ap (λ (b : Bool). alone b n) miss in
-    map-append (λ (place : ℕ). take place path) (passing_below n (ends_path path)) (alone (ends_path path n) n)
-    ∙ ap (λ (ns : List ℕ). before path n ++ map (λ (place : ℕ). take place path) ns) none
+before_no path n miss = grind (arith, map-append)
 
 pub planted_next : (paths : List (List ℕ)) (path : List ℕ) (n : ℕ) → ends_path path n ≡ true
     → fold with_path paths (before path (suc n)) ≡ with_path (fold with_path paths (before path n)) (take n path)
@@ -124,11 +99,7 @@ step_grows paths path n = elim (cases_Bool (ends_path path n)) [
 
 pub planting_grows : (paths : List (List ℕ)) (path : List ℕ) (n more : ℕ)
     → length (fold with_path paths (before path n)) ≤ length (fold with_path paths (before path (n + more)))
-planting_grows paths path n zero =
-    let e : n + 0 ≡ n = omega arith in
-    subst (λ (m : ℕ). length (fold with_path paths (before path n)) ≤ length (fold with_path paths (before path m)))
-    (sym e)
-    (omega arith)
+planting_grows paths path n zero = grind (arith)
 planting_grows paths path n (suc more) =
     let e : n + suc more ≡ suc (n + more) = omega arith in
     let here : length (fold with_path paths (before path n)) ≤ length (fold with_path paths (before path (n + more))) =
@@ -136,8 +107,7 @@ planting_grows paths path n (suc more) =
     let next : length (fold with_path paths (before path (n + more)))
     ≤ length (fold with_path paths (before path (suc (n + more)))) = step_grows paths path (n + more) in
     subst (λ (m : ℕ). length (fold with_path paths (before path n)) ≤ length (fold with_path paths (before path m)))
-    (sym e)
-    (omega (arith, here, next))
+    (sym e) (omega (arith, here, next))
 
 pub full_more : (line : Line) (paths more : List (List ℕ)) (fault : TableFault) → IsFullFault line paths fault
     → length paths ≤ length more → IsFullFault line more fault
@@ -148,8 +118,7 @@ full_more line paths more fault.Unlike is grows = is
 
 -- a line's path with too many comes too early
 pub full_at : (line : Line) (paths : List (List ℕ)) (path : List ℕ) (n : ℕ) (fault : TableFault) → n ≤ length path
-    → ends_path path n ≡ true
-    → IsFullFault line (with_path (fold with_path paths (before path n)) (take n path)) fault
+    → ends_path path n ≡ true → IsFullFault line (with_path (fold with_path paths (before path n)) (take n path)) fault
     → IsFullFault line (fold with_path paths (paths_to path)) fault
 full_at line paths path n fault within ends is =
     let e : suc n + (length path - n) ≡ suc (length path) = omega arith in
@@ -190,10 +159,7 @@ not_spare lines place line at new few (inr beyond) = absurd (omega (arith, few, 
 -- one more that isn't
 pub none_more : (P : ℕ → Type 0) (place : ℕ) → ((before : ℕ) → before < place → P before → ⊥) → (P place → ⊥)
     → (before : ℕ) → before < suc place → P before → ⊥
-none_more P place none here before less is = elim (cases_eq before place) [
-  | inl e ↦ here (subst P e is)
-  | inr ne ↦ none before (omega arith) is
-]
+none_more P place none here before less is = grind (arith, cases_eq)
 
 -- the first spare line is refused
 pub twice_told : (lines : List Line) (place : ℕ) (line : Line) (fault : TableFault) → slice_get lines place ≡ Some line

@@ -1,5 +1,5 @@
 -- Why a text is refused, from its rows.
-use Rattle.std.proofs.Common.{◌≡◌, ◌∙◌, ◌<◌, ◌≤◌, ℕ, List, [], ◌∷◌, Some, refl, sym, ap, subst, inl, inr, arith}
+use Rattle.std.proofs.Common.{◌≡◌, ◌<◌, ◌≤◌, ℕ, List, [], ◌∷◌, Some, refl, inr, arith}
 use Rattle.std.proofs.Common.{length, slice_get, Result, Ok, Err, OnOk, IfErr}
 use Rattle.std.proofs.lemmas.Option.{none-some, same_Some}
 use Rattle.grove_table.proofs.LookedAt.{kept_all}
@@ -7,27 +7,17 @@ use Rattle.grove_table.specs.declared.fault.TableFault.{TableFault}
 use Rattle.grove_table.specs.declared.fault.TableFault.TheVariants.{Empty, Line, Unlike, Memory}
 use Rattle.grove_table.specs.Tables.{AreRowsOf}
 use Rattle.grove_table.specs.Refusals.{AreBelow, AreFaultless, IsFaultless, IsHeader, IsTextRefused}
-use Rattle.grove_table.specs.Rows.{AreRowsRefused, IsHeaderFault, IsRowFault}
+use Rattle.grove_table.specs.Rows.{AreRowsRefused, IsRowFault}
 
 -- the first row that breaks one
 pub row_refuses : (rows : List (List (List ℕ))) (place : ℕ) (row : List (List ℕ)) (fault : TableFault)
     → ((before : ℕ) (fields : List (List ℕ)) → before < place → slice_get rows before ≡ Some fields
-    → IsFaultless fields)
-    → slice_get rows place ≡ Some row → IsRowFault row fault → AreRowsRefused rows fault
+    → IsFaultless fields) → slice_get rows place ≡ Some row → IsRowFault row fault → AreRowsRefused rows fault
 row_refuses rows place row Memory kept at why = tt
 row_refuses rows place row (Line fault) kept at why =
     (place, row, at, why, λ before other less is. kept before other less is)
 row_refuses rows place row Empty kept at why = why
 row_refuses rows place row Unlike kept at why = why
-
--- a text is refused for its header
-pub header_refuses : (text : List ℕ) (header : List (List ℕ)) (below : List (List (List ℕ))) (fault : TableFault)
-    → AreRowsOf text (header ∷ below) → IsHeader header → IsHeaderFault header fault → IsTextRefused text fault
-header_refuses text header below Memory rows is why = tt
-header_refuses text header below (Line fault) rows is why =
-    (header ∷ below, rows, inl (header, refl, is, why.0, why.1, why.2))
-header_refuses text header below Empty rows is why = why
-header_refuses text header below Unlike rows is why = why
 
 -- or for a row below
 pub below_refuses : (text : List ℕ) (rows below : List (List (List ℕ))) (fault : TableFault) → AreRowsOf text rows
@@ -37,20 +27,10 @@ below_refuses text rows below (Line fault) are is why = (rows, are, inr (below, 
 below_refuses text rows below Empty are is why = why
 below_refuses text rows below Unlike are is why = why
 
--- or only for memory
-pub memory_refuses : (text : List ℕ) (fault : TableFault) → fault ≡ Memory → IsTextRefused text fault
-memory_refuses text fault e = subst (IsTextRefused text) (sym e) tt
-
 -- the rows of a text whose first is no header
 pub headless : (rows : List (List (List ℕ))) (first : List (List ℕ)) (more : List (List (List ℕ)))
     → rows ≡ first ∷ more → ¬ IsHeader first → AreBelow rows rows
-headless rows first more is none = inr (
-  refl,
-  λ other at head.
-      let same : first ≡ other =
-      same_Some first other (sym (ap (λ (list : List (List (List ℕ))). slice_get list 0) is) ∙ at) in
-      none (subst IsHeader (sym same) head),
-)
+headless rows first more is none = grind (arith, same_Some)
 
 -- or of one that has none
 pub rowless : (rows : List (List (List ℕ))) → length rows ≡ 0 → AreBelow rows rows
@@ -70,6 +50,5 @@ if_err (Err error) P Q is goes = goes error is
 -- rows that were all looked at
 pub all_faultless : (rows : List (List (List ℕ))) (place : ℕ)
     → ((before : ℕ) (fields : List (List ℕ)) → before < place → slice_get rows before ≡ Some fields
-    → IsFaultless fields)
-    → length rows ≤ place → AreFaultless rows
+    → IsFaultless fields) → length rows ≤ place → AreFaultless rows
 all_faultless rows place kept all at fields is = kept_all IsFaultless rows place kept all at fields is

@@ -67,8 +67,7 @@ IsFirstBroken fields rule = (front back : List Reason) × (row_rules ≡ front +
     × KeepsAll fields front × Breaks fields rule
 
 abbrev pub IsNoLine : List (List ℕ) → LineFault → Type 0
-IsNoLine fields fault =
-    IsFirstBroken fields fault.reason × (string_bytes fault.about ≡ about_of fields fault.reason)
+IsNoLine fields fault = IsFirstBroken fields fault.reason × (string_bytes fault.about ≡ about_of fields fault.reason)
 
 -- the first row that does
 abbrev pub IsRowRefused : List (List (List ℕ)) → LineFault → Type 0
@@ -115,8 +114,7 @@ IsTextRefused text fault.Unlike = ⊥
 
 -- a line has the path
 abbrev pub HasPath : List Line → List ℕ → Type 0
-HasPath lines path =
-    (place : ℕ) × (line : Line) × (slice_get lines place ≡ Some line) × (string_bytes line.path ≡ path)
+HasPath lines path = (place : ℕ) × (line : Line) × (slice_get lines place ≡ Some line) × (string_bytes line.path ≡ path)
 
 -- a slash stands at the place
 abbrev pub is_slash_at : List ℕ → ℕ → Bool

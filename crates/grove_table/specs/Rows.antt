@@ -23,8 +23,7 @@ IsNamedAt fields place =
 -- the fault of a header, of a row and of rows, unless memory ran out
 abbrev pub IsHeaderFault : List (List ℕ) → TableFault → Type 0
 IsHeaderFault fields Memory = ⊤
-IsHeaderFault fields (Line fault) =
-    ¬ IsWellNamed fields × (fault.reason ≡ BadHeader) × (string_bytes fault.about ≡ [])
+IsHeaderFault fields (Line fault) = ¬ IsWellNamed fields × (fault.reason ≡ BadHeader) × (string_bytes fault.about ≡ [])
 IsHeaderFault fields Empty = ⊥
 IsHeaderFault fields Unlike = ⊥
 

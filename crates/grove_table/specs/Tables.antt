@@ -44,8 +44,7 @@ AreRowsOf text rows =
 
 -- the lines are the rows of a text; a first row may be a header
 abbrev pub AreLinesOf : List ℕ → List Line → Type 0
-AreLinesOf text lines = (rows : List (List (List ℕ))) × AreRowsOf text rows
-    × (AllZip IsLine rows lines
+AreLinesOf text lines = (rows : List (List (List ℕ))) × AreRowsOf text rows × (AllZip IsLine rows lines
     ⊎ ((header : List (List ℕ)) × (below : List (List (List ℕ))) × (rows ≡ header ∷ below)
     × (field_of header 0 ≡ codes "path") × AllZip IsLine below lines))
 

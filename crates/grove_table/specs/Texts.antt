@@ -14,5 +14,4 @@ line_text tree records node =
 
 -- a header, and a line for each node, in preorder
 abbrev pub table_text : Rows → List ℤ → List ℕ
-table_text tree records =
-    codes "path,weight,value\n" ++ flat_map (line_text tree records) (numbers_below (length tree))
+table_text tree records = codes "path,weight,value\n" ++ flat_map (line_text tree records) (numbers_below (length tree))

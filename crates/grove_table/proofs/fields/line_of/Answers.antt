@@ -1,10 +1,10 @@
-use Rattle.std.proofs.Common.{◌≡◌, ◌≤◌, ℕ, ℤ, true, List, None, length, arith, rules, refl, ◌∙◌, Some, subst}
+use Rattle.std.proofs.Common.{◌≡◌, ◌≤◌, ℕ, ℤ, true, List, None, length, arith, rules, refl, subst}
 use Rattle.csv.specs.Records.{fields_of}
 use Rattle.grove_access.specs.Effects.{fits}
 use Rattle.grove_table.specs.Tables.{field_of, IsValueIn, IsWeightIn}
 use Rattle.grove_table.specs.PathScans.{PathIs}
 use Rattle.grove_table.specs.Refusals.{Breaks}
-use Rattle.grove_table.specs.declared.fault.Reason.TheVariants.{BadFields, BadWeight, BadValue, NotText}
+use Rattle.grove_table.specs.declared.fault.Reason.TheVariants.{BadWeight, BadValue, NotText}
 use Rattle.grove_table.proofs.RowRules.{all_kept, all_text, fields_broken, path_broken, row_refused, text_broken}
 use Rattle.grove_table.proofs.RowRules.{value_broken, weight_broken}
 use Rattle.grove_table.proofs.fields.line_of.Goals as goal
@@ -12,9 +12,7 @@ use Rattle.grove_table.proofs.fields.line_of.Goals.{in_default-via-in-Some+in-So
 use Rattle.grove_table.proofs.fields.line_of.Goals.{in_default-via-in-Some+in_default, in_default-via-in_default}
 
 pub returns-then-len-gt-FIELDS-clause-refused : goal.returns-then-len-gt-FIELDS-clause-refused
-returns-then-len-gt-FIELDS-clause-refused c =
-    let fields = fields_of c.args.row.now in
-    row_refused fields c.args.number BadFields _ _ c.of_line.ensures (fields_broken fields (omega arith)) refl
+returns-then-len-gt-FIELDS-clause-refused c = grind (arith, fields_broken, row_refused)
 
 pub returns-in_default-clause-refused : goal.returns-in_default-clause-refused
 returns-in_default-clause-refused c =
@@ -28,15 +26,7 @@ returns-in_default-clause-refused c =
     ]) refl
 
 pub returns-in-Some-clause-refused : goal.returns-in-Some-clause-refused
-returns-in-Some-clause-refused c =
-    let fields = fields_of c.args.row.now in
-    let few : length fields ≤ 3 = omega arith in
-    let text : ¬ Breaks fields NotText = all_text fields few (search rules) (search rules) (search rules) in
-    let path : c.in-Some-Some-Some.path.now ≡ field_of fields 0 = search rules in
-    let is : PathIs (field_of fields 0) (Some c.in-Some.reason) =
-    subst (λ (bytes : List ℕ). PathIs bytes (Some c.in-Some.reason)) path (search rules) in
-    let broken = path_broken fields c.in-Some.reason few text is in
-    row_refused fields c.args.number c.in-Some.reason _ _ c.of_line-in-Some.ensures broken.0 (path ∙ broken.1)
+returns-in-Some-clause-refused c = grind (arith, all_text, path_broken, row_refused)
 
 pub returns-in_default-weight_in-clause-refused : goal.returns-in_default-weight_in-clause-refused
 returns-in_default-weight_in-clause-refused c =
@@ -44,8 +34,7 @@ returns-in_default-weight_in-clause-refused c =
     let few : length fields ≤ 3 = omega arith in
     let text : ¬ Breaks fields NotText = all_text fields few (search rules) (search rules) (search rules) in
     let path : c.in-Some-Some-Some.path.now ≡ field_of fields 0 = search rules in
-    let is : PathIs (field_of fields 0) None =
-    subst (λ (bytes : List ℕ). PathIs bytes None) path (search rules) in
+    let is : PathIs (field_of fields 0) None = subst (λ (bytes : List ℕ). PathIs bytes None) path (search rules) in
     let weight : c.in-Some-Some-Some.weight.now ≡ field_of fields 1 = search rules in
     let none : Breaks fields BadWeight =
     subst (λ (bytes : List ℕ). (weight : ℕ) → ¬ IsWeightIn bytes weight) weight (search rules) in
@@ -58,8 +47,7 @@ returns-in_default-value_in-clause-refused c =
     let few : length fields ≤ 3 = omega arith in
     let text : ¬ Breaks fields NotText = all_text fields few (search rules) (search rules) (search rules) in
     let path : c.in-Some-Some-Some.path.now ≡ field_of fields 0 = search rules in
-    let is : PathIs (field_of fields 0) None =
-    subst (λ (bytes : List ℕ). PathIs bytes None) path (search rules) in
+    let is : PathIs (field_of fields 0) None = subst (λ (bytes : List ℕ). PathIs bytes None) path (search rules) in
     let weight : c.in-Some-Some-Some.weight.now ≡ field_of fields 1 = search rules in
     let read : IsWeightIn (field_of fields 1) c.in-Some-weight_in.weight_read =
     subst (λ (bytes : List ℕ). IsWeightIn bytes c.in-Some-weight_in.weight_read) weight (search rules) in
@@ -75,8 +63,7 @@ returns-clause-faultless c =
     let few : length fields ≤ 3 = omega arith in
     let text : ¬ Breaks fields NotText = all_text fields few (search rules) (search rules) (search rules) in
     let path : c.in-Some-Some-Some.path.now ≡ field_of fields 0 = search rules in
-    let is : PathIs (field_of fields 0) None =
-    subst (λ (bytes : List ℕ). PathIs bytes None) path (search rules) in
+    let is : PathIs (field_of fields 0) None = subst (λ (bytes : List ℕ). PathIs bytes None) path (search rules) in
     let weight : c.in-Some-Some-Some.weight.now ≡ field_of fields 1 = search rules in
     let read : IsWeightIn (field_of fields 1) c.in-Some-weight_in.weight_read =
     subst (λ (bytes : List ℕ). IsWeightIn bytes c.in-Some-weight_in.weight_read) weight (search rules) in

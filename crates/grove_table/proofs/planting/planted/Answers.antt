@@ -2,10 +2,9 @@ use Rattle.std.proofs.Common.{◌≡◌, ◌∙◌, ◌≤◌, List, ℕ, Some, 
 use Rattle.std.proofs.Common.{string_bytes, subst, suc, sym, take}
 use Rattle.grove_base.proofs.Lists.{map_length, read_at}
 use Rattle.grove_table.specs.declared.fault.Reason.TheVariants.{TwiceNamed}
-use Rattle.grove_table.specs.declared.fault.TableFault.{TableFault}
 use Rattle.grove_table.specs.declared.planting.Sprout.{Sprout}
 use Rattle.grove_table.specs.Refusals.{HasPath, IsSpare, needed, paths_to, with_path}
-use Rattle.grove_table.specs.Plantings.{IsFullFault, IsSpareFault, paths_of}
+use Rattle.grove_table.specs.Plantings.{paths_of}
 use Rattle.grove_table.specs.Rows.{Tells}
 use Rattle.grove_table.proofs.SpareLines.{full_told, needed_more, none_more, not_spare, twice_told}
 use Rattle.grove_table.proofs.SpareLines.{was_found, was_not_found}
@@ -55,21 +54,7 @@ returns-then-is_some-clause-refused c =
     twice_told lines place line c.of_line.result at has c.loop-place.invariant.none tells
 
 pub returns-in_err-plant-clause-refused : goal.returns-in_err-plant-clause-refused
-returns-in_err-plant-clause-refused c =
-    let lines = c.args.lines.now in
-    let line = c.index-lines-place.result in
-    let place : ℕ = c.loop-place.place in
-    let path : List ℕ = string_bytes line.path in
-    let fault : TableFault = c.in_err-plant.field-0.0 in
-    let at : slice_get lines place ≡ Some line = read_at lines place line c.loop-place-test.true
-    c.index-lines-place.is in
-    let told : IsFullFault line (fold with_path (paths_of c.loop-place.sprouts.items) (paths_to path)) fault =
-    search rules in
-    let why : IsSpareFault lines fault =
-    full_told lines place line fault at c.loop-place.invariant.none
-    (subst (λ (paths : List (List ℕ)). IsFullFault line (fold with_path paths (paths_to path)) fault)
-    c.loop-place.invariant.planted told) in
-    search (rules, why)
+returns-in_err-plant-clause-refused c = grind (arith, full_told, read_at)
 
 pub returns-clause-none : goal.returns-clause-none
 returns-clause-none c = λ place less. c.loop-place.invariant.none place (omega arith)

@@ -1,4 +1,4 @@
-use Rattle.std.proofs.Common.{◌≡◌, ◌∙◌, ◌∷◌, List, IfErr, OnOk, ap, length, map, refl, rules, subst, inl}
+use Rattle.std.proofs.Common.{◌≡◌, ◌∙◌, ◌∷◌, List, OnOk, ap, length, map, refl, rules, subst, inl, arith}
 use Rattle.grove_base.proofs.Lists.{map_length}
 use Rattle.csv.specs.Records.{Row, fields_of}
 use Rattle.grove_table.specs.Tables.{AreRowsOf}
@@ -51,24 +51,7 @@ returns-clause-faultless c =
     let same : c.deref-in_default.result.now ≡ c.in_ok-rows.rows.items = search rules in
     on_ok c.lines_of-in_default.result (AreFaultless rows) (IsTextFaultless text)
     (subst (λ (items : List Row). OnOk c.lines_of-in_default.result (AreFaultless (map fields_of items))) same
-    c.lines_of-in_default.ensures.faultless)
-    (λ kept. (rows, c.in_ok-rows.ensures.rows, rows, all, kept))
+    c.lines_of-in_default.ensures.faultless) (λ kept. (rows, c.in_ok-rows.ensures.rows, rows, all, kept))
 
 pub returns-clause-refused : goal.returns-clause-refused
-returns-clause-refused c =
-    let text = c.args.text.now in
-    let rows = map fields_of c.in_ok-rows.rows.items in
-    let all : AreBelow rows rows = elim c.in_default.branch [
-      | in_default-via-in-Some+else-is_header w ↦
-          let is : c.in_ok-rows.rows.items ≡ w.in-Some.first.now ∷ w.in-Some.below.now = search rules in
-          headless rows (fields_of w.in-Some.first.now) (map fields_of w.in-Some.below.now) (ap (map fields_of) is)
-          (search rules)
-      | in_default-via-in_default w ↦
-          let none : length c.in_ok-rows.rows.items ≡ 0 = search rules in
-          rowless rows (map_length fields_of c.in_ok-rows.rows.items ∙ none)
-    ] in
-    let same : c.deref-in_default.result.now ≡ c.in_ok-rows.rows.items = search rules in
-    if_err c.lines_of-in_default.result (AreRowsRefused rows) (IsTextRefused text)
-    (subst (λ (items : List Row). IfErr c.lines_of-in_default.result (AreRowsRefused (map fields_of items))) same
-    c.lines_of-in_default.ensures.refused)
-    (λ fault why. below_refuses text rows rows fault c.in_ok-rows.ensures.rows all why)
+returns-clause-refused c = grind (arith, below_refuses, headless, if_err, map_length, rowless)

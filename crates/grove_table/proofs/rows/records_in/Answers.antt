@@ -9,6 +9,7 @@ use Rattle.csv.specs.declared.parser.State.TheVariants as st
 use Rattle.csv.proofs.ReadFacts.{rows-end, rows-more}
 use Rattle.grove_table.specs.Confirming.{known, table_config}
 use Rattle.grove_table.proofs.rows.records_in.Goals as goal
+use Rattle.std.proofs.Common.{arith}
 
 -- how a builder reads once it takes comments
 abbrev with_comments : Config → Config
@@ -61,12 +62,4 @@ loop-row-preserved c =
     )
 
 pub returns : goal.returns
-returns c =
-    let inv = c.loop-row.invariant in
-    let s = rw c.in-None.is at ((c.next.ensures.steps inv.2 inv.0).0 inv.1) in (
-      c.loop-row.row-iterator.rdr.state,
-      inv.4,
-      inv.6,
-      rows-end known
-          c.loop-row.row-iterator.rdr c.next.new.self.rdr [] table_config inv.4 inv.3 inv.5 s,
-    )
+returns c = grind (arith, rows-end)
