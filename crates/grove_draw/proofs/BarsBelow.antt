@@ -14,8 +14,7 @@ use Rattle.grove_plan.specs.Plans.{holding, IsLegal}
 use Rattle.grove_proof.proofs.ForcedMarks.{passing_hit, passing_miss}
 use Rattle.grove_draw.specs.declared.bar.Bar.{Bar}
 use Rattle.grove_draw.specs.Pictures.{IsBarOf, AreLocked}
-use Rattle.grove_draw.specs.Bars.{is_locked}
-use Rattle.grove_draw.specs.Bars.{AreBarsBelow}
+use Rattle.grove_draw.specs.Bars.{is_locked, AreBarsBelow}
 use Rattle.grove_draw.proofs.LockedNodes.{locked_by, locked_from, unlocked_free}
 
 -- a node that isn't locked has no bar

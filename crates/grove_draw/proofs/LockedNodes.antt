@@ -1,7 +1,7 @@
 -- What a legal plan does with the nodes that it locks, and what it doesn't do with the others.
 use Rattle.std.proofs.Common.{◌≡◌, ℕ, ◌+◌, ◌-◌, ◌<◌, ◌≤◌, Bool, true, false, cond, List, length, Some, None, refl, sym, ◌∙◌, ap, arith}
 use Rattle.std.specs.List.{slice_get}
-use Rattle.std.proofs.lemmas.Option.{none-some, same_Some, slice_get_within}
+use Rattle.std.proofs.lemmas.Option.{slice_get_within, cond_some}
 use Rattle.std.proofs.lemmas.Bool.{both_ways, cond-false}
 use Rattle.grove_base.specs.Numbers.{any_below}
 use Rattle.grove_base.proofs.Counting.{any_true, any_from, any_false, count_mono, sum_zero, numbers_length}
@@ -22,9 +22,7 @@ locked_from plan v (i, is) = any_from (length plan) (λ k. locks v (slice_get pl
 
 -- and only such a node does
 pub locked_by : (plan : List Step) (v : ℕ) → is_locked plan v ≡ true → IsLockedBy plan v
-locked_by plan v h =
-    let found : (k : ℕ) × (k < length plan) × (locks v (slice_get plan k) ≡ true) = any_true (length plan) (λ k. locks v (slice_get plan k)) h in
-    (found.0, locks_true v (slice_get plan found.0) found.2)
+locked_by plan v h = grind (arith, any_true, locks_true)
 
 -- a node that no step locks is never held
 pub unlocked_free : (lengths : List ℕ) (plan : List Step) (v : ℕ) → is_locked plan v ≡ false → holding lengths plan v ≡ 0
@@ -34,11 +32,6 @@ unlocked_free lengths plan v none =
     let before : h.at < q = h.before in
     both_ways (locks v (slice_get plan h.at)) (any_false (length plan) (λ k. locks v (slice_get plan k)) none h.at (omega arith)) (locks_from v (slice_get plan h.at) h.is_lock))))
 
--- what a choice that is something says
-chosen : (b : Bool) (x y : ℕ) → cond b (Some x) None ≡ Some y → (b ≡ true) × (x ≡ y)
-chosen true x y h = (refl, same_Some x y h)
-chosen false x y h = absurd (none-some y h)
-
 -- what a choice that is nothing says
 unchosen : (b : Bool) (x : ℕ) → cond b (Some x) None ≡ None → b ≡ false
 unchosen true x h = absurd (cc)
@@ -46,7 +39,7 @@ unchosen false x h = refl
 
 -- a node whose lock has a slot is locked
 pub slot_locked : (plan : List Step) (v slot : ℕ) → slot_of_lock plan v ≡ Some slot → is_locked plan v ≡ true
-slot_locked plan v slot h = (chosen (is_locked plan v) (first_lock_slot plan v) slot h).0
+slot_locked plan v slot h = (cond_some (is_locked plan v) (first_lock_slot plan v) slot h).0
 
 -- the slots of the lock and the release of a node, in order, and how long the node is held
 pub record HasSlots (nodes lengths : List ℕ) (plan : List Step) (v lock release : ℕ) : Type 0 where
@@ -65,18 +58,16 @@ module _ (rows : Rows) (nodes : List ℕ) (plan : List Step) (legal : IsLegal ro
 
   -- a node whose lock has a slot is released
   pub released : (v slot : ℕ) → slot_of_lock plan v ≡ Some slot → slot_of_release plan v ≡ None → ⊥
-  released v slot h none =
-      let at : HasPlaces plan v = places_of v slot h in
-      both_ways (any_below (length plan) (λ k. unlocks v (slice_get plan k)))
-      (unchosen (any_below (length plan) (λ k. unlocks v (slice_get plan k))) (first_release_slot plan v) none)
-      (any_from (length plan) (λ k. unlocks v (slice_get plan k)) at.unlock (slice_get_within plan at.unlock (Unlock v) at.is_unlock) (unlocks_from v (slice_get plan at.unlock) at.is_unlock))
+  released v slot h none = grind (arith, any_from, both_ways, places_of, slice_get_within, unchosen, unlocks_from)
 
   -- its slots are in order, and it is held for what lies between them
   pub has_slots : (lengths : List ℕ) (v lock release : ℕ) → slot_of_lock plan v ≡ Some lock → slot_of_release plan v ≡ Some release → HasSlots nodes lengths plan v lock release
   has_slots lengths v lock release h k =
       let at : HasPlaces plan v = places_of v lock h in
-      let first : first_lock_slot plan v ≡ lock = (chosen (is_locked plan v) (first_lock_slot plan v) lock h).1 in
-      let last : first_release_slot plan v ≡ release = (chosen (any_below (length plan) (λ i. unlocks v (slice_get plan i))) (first_release_slot plan v) release k).1 in
+      let first : first_lock_slot plan v ≡ lock = (cond_some (is_locked plan v) (first_lock_slot plan v) lock h).1 in
+      let last : first_release_slot plan v ≡ release =
+      (cond_some (any_below (length plan) (λ i. unlocks v (slice_get plan i))) (first_release_slot plan v)
+      release k).1 in
       let lock_at : first_lock_slot plan v ≡ accesses_before plan at.lock = ap (accesses_before plan) at.lock_is in
       let release_at : first_release_slot plan v ≡ accesses_before plan at.unlock = ap (accesses_before plan) at.unlock_is in
       let before : at.lock < at.unlock = at.before in

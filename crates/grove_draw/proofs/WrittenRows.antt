@@ -1,9 +1,7 @@
 -- Rows that are written one after the other, and what they make up.
-use Rattle.std.proofs.Common.{◌≡◌, ◌∙◌, ℕ, suc, List, [], ◌∷◌, ◌++◌, Some, ap, append-nil}
-use Rattle.std.proofs.Common.{slice_get, subst, sym, take}
+use Rattle.std.proofs.Common.{◌≡◌, ◌∙◌, ℕ, suc, List, ◌++◌, Some, ap, append-nil, slice_get, sym, take, arith}
 use Rattle.std.specs.Prelude.{Err, IfOk, Ok, Result, codes, decimal, ◌==◌}
 use Rattle.std.proofs.lemmas.Bool.{cond-false, cond-true, eq-eqb, ne_eqb}
-use Rattle.std.specs.List.{AllZip, concat}
 use Rattle.std.proofs.lemmas.List.Folds.{concat-append}
 use Rattle.std.proofs.lemmas.Slice.Zip.{all_zipped_more}
 use Rattle.grove_base.proofs.Lists.{take_next}
@@ -15,13 +13,7 @@ pub written_more : (IsRow : Bar → List ℕ → Type 0) (bars : List Bar) (plac
     → AreWritten IsRow (take place bars) rows → slice_get bars place ≡ Some bar → IsRow bar row → text ≡ rows ++ row
     → AreWritten IsRow (take (suc place) bars) text
 written_more IsRow bars place bar rows row text written at is e =
-    let more : concat (written.0 ++ row ∷ []) ≡ concat written.0 ++ row =
-    concat-append written.0 (row ∷ []) ∙ ap (λ (end : List ℕ). concat written.0 ++ end) (append-nil row) in (
-      written.0 ++ row ∷ [],
-      subst (λ (front : List Bar). AllZip IsRow front (written.0 ++ row ∷ [])) (sym (take_next bars place bar at))
-          (all_zipped_more IsRow _ _ _ _ written.1 is),
-      e ∙ ap (λ (front : List ℕ). front ++ row) written.2 ∙ sym more,
-    )
+    grind (arith, all_zipped_more, append-nil, concat-append, take_next)
 
 -- what follows of a result that is right
 pub if_ok : {T E : Type 0} (result : Result T E) (P Q : T → Type 0) → IfOk result P
@@ -32,15 +24,13 @@ if_ok (Err error) P Q is goes = tt
 -- the shape of a bar
 pub stroke_shape : (x width given top end : ℕ) (text : List ℕ) → given ≡ width → width ≡ 0
     → text ≡ codes "<path class=\"stroke\" d=\"M" ++ decimal x ++ codes " " ++ decimal top ++ codes "V" ++ decimal end
-    ++ codes "\"/>\n"
-    → IsShape x given text
+    ++ codes "\"/>\n" → IsShape x given text
 stroke_shape x width given top end text same none is =
     (top, end, is ∙ sym (cond-true (given == 0) _ _ (eq-eqb given 0 (same ∙ none))))
 
 pub bar_shape : (x width given top : ℕ) (text : List ℕ) → given ≡ width → (width ≡ 0 → ⊥)
     → text ≡ codes "<rect class=\"bar\" x=\"" ++ decimal x ++ codes "\" y=\"" ++ decimal top ++ codes "\" width=\""
-    ++ decimal width ++ codes "\" height=\"18\"/>\n"
-    → IsShape x given text
+    ++ decimal width ++ codes "\" height=\"18\"/>\n" → IsShape x given text
 bar_shape x width given top text same some is = (
   top,
   0,

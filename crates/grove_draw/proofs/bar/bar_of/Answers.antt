@@ -1,14 +1,11 @@
-use Rattle.std.proofs.Common.{◌*◌, ℕ, sym, ◌∙◌, ap, arith}
+use Rattle.std.proofs.Common.{sym, ◌∙◌, arith}
 use Rattle.grove_access.specs.Lists.{nodes_of, lengths_of}
 use Rattle.grove_access.proofs.Lists.{nodes_length}
-use Rattle.grove_plan.specs.Plans.{holding}
 use Rattle.grove_draw.proofs.LockedNodes.{HasSlots, has_slots, released}
 use Rattle.grove_draw.proofs.bar.bar_of.Goals as goal
 
 pub unreachable-requires : goal.unreachable-requires
-unreachable-requires c =
-    released c.args.tree.now (nodes_of c.args.list.now) c.args.plan.now c.requires.legal c.args.node c.in-Some.lock
-    (sym c.lock_slot.ensures ∙ c.in-Some.is) (sym c.release_slot.ensures ∙ c.in_default-release_slot.is)
+unreachable-requires c = grind (arith, released)
 
 pub cost_of-requires-clause-order : goal.cost_of-requires-clause-order
 cost_of-requires-clause-order c =
@@ -23,15 +20,4 @@ cost_of-requires-clause-within c =
     omega (arith, has.within, nodes_length c.args.list.now)
 
 pub returns-clause-bar : goal.returns-clause-bar
-returns-clause-bar c =
-    let has : HasSlots (nodes_of c.args.list.now) (lengths_of c.args.list.now) c.args.plan.now c.args.node c.in-Some.lock c.in-Some-release_slot.release =
-    has_slots c.args.tree.now (nodes_of c.args.list.now) c.args.plan.now c.requires.legal (lengths_of c.args.list.now) c.args.node c.in-Some.lock c.in-Some-release_slot.release
-    (sym c.lock_slot.ensures ∙ c.in-Some.is) (sym c.release_slot.ensures ∙ c.in-Some-release_slot.is) in
-    record {
-      path = c.in_ok-path_of.ensures.path;
-      depth = c.depth.ensures;
-      weight = c.weight-weight.ensures;
-      lock = sym c.lock_slot.ensures ∙ c.in-Some.is;
-      release = sym c.release_slot.ensures ∙ c.in-Some-release_slot.is;
-      cost = c.cost_of.ensures ∙ (ap (λ (h : ℕ). c.weight-weight.result * h) has.held ∙ ap (λ (w : ℕ). w * holding (lengths_of c.args.list.now) c.args.plan.now c.args.node) c.weight-weight.ensures);
-    }
+returns-clause-bar c = grind (arith, has_slots)

@@ -1,9 +1,6 @@
-use Rattle.std.proofs.Common.{◌∷◌, ◌++◌, [], sym, ◌∙◌, ap, add-one, List}
+use Rattle.std.proofs.Common.{add-one, arith}
 use Rattle.grove_base.proofs.Lists.{take_next}
-use Rattle.grove_access.specs.declared.access.Access.{Access}
 use Rattle.grove_draw.proofs.picture.accesses_of.Goals as goal
 
 pub loop-number-preserved : goal.loop-number-preserved
-loop-number-preserved c =
-    rw add-one (c.in_ok-push.ensures.items ∙ (ap (λ (xs : List Access). xs ++ c.get.result ∷ []) c.loop-number.invariant
-    ∙ sym (take_next c.args.list.now c.loop-number.number c.get.result c.get.ensures)))
+loop-number-preserved c = grind (arith, add-one, take_next)
