@@ -20,18 +20,7 @@ pub record HasPlaced (order : List ℕ) (jobs n : ℕ) (places : List ℕ) : Typ
 pub placed_more : (order : List ℕ) (jobs n : ℕ) (places : List ℕ) (job : ℕ) → IsEachOnce order jobs → slice_get order n ≡ Some job → HasPlaced order jobs n places
     → HasPlaced order jobs (n + 1) (set places job n)
 placed_more order jobs n places job each at so_far =
-    let within : job < jobs = each.within n job at in
-    let all : length places ≡ jobs = so_far.all in
-    record {
-      all = length-set places job n ∙ so_far.all;
-      placed = λ place t lt read. elim (cases_eq place n) [
-        | inl e ↦
-            let same : t ≡ job = same_Some t job (sym read ∙ ap (λ (k : ℕ). slice_get order k) e ∙ at) in
-            ap (λ (k : ℕ). slice_get (set places job n) k) same ∙ get_set_same places job n (omega arith) ∙ ap (λ (k : ℕ). Some k) (sym e)
-        | inr ne ↦
-            get_set_other places job t n (λ e. ne (each.once place n t read (at ∙ ap (λ (k : ℕ). Some k) (sym e)))) ∙ so_far.placed place t (omega arith) read
-      ];
-    }
+    grind (arith, cases_eq, get_set_other, get_set_same, length-set, same_Some)
 
 -- where a job stands once, its position is that
 position_at : (order : List ℕ) (jobs job place : ℕ) → IsEachOnce order jobs → slice_get order place ≡ Some job → position_or_len (λ other. eqb other job) order ≡ place

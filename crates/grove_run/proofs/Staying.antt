@@ -1,11 +1,11 @@
 -- A carry is still of the core once its step is done.
-use Rattle.std.proofs.Common.{◌≡◌, ◌≢◌, ℕ, ◌+◌, ◌<◌, ℤ, eqb, List, [], ◌∷◌, ◌++◌, length, Option, Some, None, is_some, refl, sym, ◌∙◌, ap, subst, inl, inr, arith}
+use Rattle.std.proofs.Common.{◌≡◌, ◌≢◌, ℕ, ◌<◌, ℤ, eqb, List, [], ◌∷◌, ◌++◌, length, Option, Some, None, is_some, refl}
+use Rattle.std.proofs.Common.{sym, ◌∙◌, ap, subst, inl, inr, arith}
 use Rattle.std.specs.List.{slice_get}
 use Rattle.std.proofs.lemmas.List.{append-nil}
 use Rattle.std.proofs.lemmas.Option.{none-some, slice_get-get_or}
 use Rattle.std.proofs.lemmas.Bool.{cases_eq, cases_Bool, eq-eqb, ne_eqb, cond-true, cond-false}
 use Rattle.grove_access.specs.declared.known.Known.{Known}
-use Rattle.grove_access.specs.declared.entry.Entry.{Entry}
 use Rattle.grove_access.specs.Effects.{record_at}
 use Rattle.grove_access.specs.Carries.{Carried, known_at, without, AreApart}
 use Rattle.grove_access.proofs.CarriedNodes.{known_first, known_later, none_rest}
@@ -15,8 +15,7 @@ use Rattle.grove_plan.specs.Plans.{locks, unlocks, held}
 use Rattle.grove_plan.proofs.Held.{held_step_lock, held_step_unlock}
 use Rattle.grove_core.specs.declared.event.Event.{Event}
 use Rattle.grove_core.specs.declared.event.Event.TheVariants.{Take, Mark}
-use Rattle.grove_core.specs.Runs.{list_of, plan_of, steps_done, next_step, holds, is_marked, AllLegal, deeds, deed_of, run_records}
-use Rattle.grove_core.specs.Serial.{Deed, deeds_records}
+use Rattle.grove_core.specs.Runs.{list_of, plan_of, steps_done, next_step, holds, is_marked, AllLegal, deed_of}
 use Rattle.grove_core.specs.Kept.{CoreState, past_of}
 use Rattle.grove_core.specs.Carried.{records_of, IsOf}
 use Rattle.grove_core.proofs.CoreReads.{reverse_last}
@@ -38,21 +37,14 @@ known_new (k ∷ known) item none =
 -- and the others as before
 known_others : (known : List Known) (item : Known) (node : ℕ) → item.node ≢ node → known_at (known ++ item ∷ []) node ≡ known_at known node
 known_others [] item node other = known_later (item ∷ []) item [] node refl other
-known_others (k ∷ known) item node other = elim (cases_eq k.node node) [
-  | inl same ↦ known_first (k ∷ known ++ item ∷ []) k (known ++ item ∷ []) node refl same ∙ sym (known_first (k ∷ known) k known node refl same)
-  | inr apart ↦ known_later (k ∷ known ++ item ∷ []) k (known ++ item ∷ []) node refl apart ∙ known_others known item node other
-      ∙ sym (known_later (k ∷ known) k known node refl apart)
-]
+known_others (k ∷ known) item node other =
+    grind (arith, cases_eq, known_first, known_later, known_others known item node other)
 
 -- a record that is given back is out no more
 known_gone : (known : List Known) (gone : ℕ) → AreApart known → known_at (without known gone) gone ≡ None
 known_gone [] gone apart = refl
-known_gone (k ∷ known) gone apart = elim (cases_eq k.node gone) [
-  | inl same ↦ ap (λ ks. known_at ks gone) (cond-true (eqb k.node gone) known (k ∷ without known gone) (eq-eqb k.node gone same))
-      ∙ subst (λ (node : ℕ). known_at known node ≡ None) same apart.0
-  | inr other ↦ ap (λ ks. known_at ks gone) (cond-false (eqb k.node gone) known (k ∷ without known gone) (ne_eqb k.node gone other))
-      ∙ known_later (k ∷ without known gone) k (without known gone) gone refl other ∙ known_gone known gone apart.1
-]
+known_gone (k ∷ known) gone apart =
+    grind (arith, cases_eq, cond-false, cond-true, eq-eqb, known_later, ne_eqb, known_gone known gone apart.1)
 
 -- and the others are read as before
 known_left : (known : List Known) (gone node : ℕ) → gone ≢ node → known_at (without known gone) node ≡ known_at known node
@@ -70,15 +62,7 @@ known_left (k ∷ known) gone node other = elim (cases_eq k.node gone) [
 
 -- a mark changes nothing that a carry knows
 of_marked : (core : CoreState) (carry : Carried) → IsOf core carry → IsOf (after_event core (Mark carry.txn)) carry
-of_marked core carry of =
-    let past : past_of (after_event core (Mark carry.txn)) ≡ Mark carry.txn ∷ past_of core = reverse_last core.history (Mark carry.txn) in
-    record {
-      job = of.job;
-      out = λ node. of.out node ∙ ap (λ (es : List Event). holds core.jobs es carry.txn node) (sym past);
-      known = λ node value at. ap (λ (es : List Event). slice_get (run_records core.jobs core.opening es) node) past ∙ of.known node value at;
-      next = λ i e at. ap (λ (es : List Event). slice_get (plan_of core.jobs carry.txn) (steps_done es carry.txn + i)) past ∙ of.next i e at;
-      own = of.own;
-    }
+of_marked core carry of = grind (arith, reverse_last)
 
 stays_marked : (core : CoreState) (carry : Carried) → IsOf core carry → IsOf (marked core carry.txn) carry
 stays_marked core carry of = elim (cases_Bool (is_marked (past_of core) carry.txn)) [
@@ -89,10 +73,7 @@ stays_marked core carry of = elim (cases_Bool (is_marked (past_of core) carry.tx
 -- a step that is no access leaves the records
 records_left : (core : CoreState) (t : ℕ) (step : Step) → next_step core.jobs (past_of core) t ≡ Some step → deed_of t (list_of core.jobs t) (Some step) ≡ []
     → records_of (after_event core (Take t)) ≡ records_of core
-records_left core t step next none =
-    ap (λ (es : List Event). run_records core.jobs core.opening es) (reverse_last core.history (Take t))
-    ∙ ap (λ (ds : List Deed). deeds_records (deeds core.jobs (past_of core) ++ ds) core.opening) (ap (deed_of t (list_of core.jobs t)) next ∙ none)
-    ∙ ap (λ (ds : List Deed). deeds_records ds core.opening) (append-nil (deeds core.jobs (past_of core)))
+records_left core t step next none = grind (arith, append-nil, reverse_last)
 
 -- what a job holds after its step
 held_after : (core : CoreState) (t node : ℕ) → holds core.jobs (past_of (after_event core (Take t))) t node ≡ holds core.jobs (Take t ∷ past_of core) t node
@@ -102,13 +83,7 @@ held_after core t node = ap (λ (es : List Event). holds core.jobs es t node) (r
 of_settled : (core : CoreState) (carry : Carried) → carry.entries ≡ [] → carry.txn < length core.jobs
     → ((node : ℕ) → is_some (known_at carry.known node) ≡ holds core.jobs (past_of core) carry.txn node)
     → ((node : ℕ) (value : ℤ) → known_at carry.known node ≡ Some value → slice_get (records_of core) node ≡ Some value) → IsOf core carry
-of_settled core carry none job out known = record {
-  job = job;
-  out = out;
-  known = known;
-  next = λ i e at. absurd (none-some e (sym (ap (λ (es : List Entry). slice_get es i) none) ∙ at));
-  own = λ i e at. absurd (none-some e (sym (ap (λ (es : List Entry). slice_get es i) none) ∙ at));
-}
+of_settled core carry none job out known = grind (arith, none-some)
 
 -- the node is locked, and its record taken in
 stays_locked : (core : CoreState) (carry : Carried) (v : ℕ) (value : ℤ) → known_at carry.known v ≡ None → slice_get (records_of core) v ≡ Some value → IsOf core carry → carry.entries ≡ []
@@ -157,9 +132,7 @@ stays_unlocked core carry v apart of settled next =
 
 -- the record of a node of the tree is there
 record_there : (core : CoreState) (v : ℕ) → length core.opening ≡ length core.tree → v < length core.tree → slice_get (records_of core) v ≡ Some (record_at (records_of core) v)
-record_there core v opened lt =
-    let size : length (records_of core) ≡ length core.opening = deeds_length (deeds core.jobs (past_of core)) core.opening in
-    slice_get-get_or (records_of core) v _ (omega arith)
+record_there core v opened lt = grind (arith, deeds_length, slice_get-get_or)
 
 -- whatever comes of the step of a settled carry
 pub done_stays : (core after : CoreState) (carry new : Carried) (step : Step) (result : CarryStep) → AllLegal core.tree core.jobs → length core.opening ≡ length core.tree → AreApart carry.known

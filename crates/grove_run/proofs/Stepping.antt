@@ -15,16 +15,14 @@ use Rattle.grove_core.specs.Runs.{plan_of, steps_done, next_step, holds, is_mark
 use Rattle.grove_core.specs.Kept.{CoreState, past_of}
 use Rattle.grove_core.specs.Carried.{IsOf}
 use Rattle.grove_access.specs.Carries.{Carried, known_at, carry_settled}
-use Rattle.grove_access.proofs.CarriedNodes.{length-settled, none_found}
+use Rattle.grove_access.proofs.CarriedNodes.{length-settled}
 use Rattle.grove_core.proofs.Precedence.{within_jobs}
 use Rattle.grove_run.specs.Books.{after_event, marked, step_after, HasNoStep, IsBlockedAt}
+use Rattle.grove_base.proofs.Lists.{none_there}
 
 -- a job doesn't hold the node that it is to lock, and holds the one that it is to unlock
 pub free_before : (rows : Rows) (jobs : List Job) (past : List Event) (t v : ℕ) → AllLegal rows jobs → next_step jobs past t ≡ Some (Lock v) → holds jobs past t v ≡ false
-free_before rows jobs past t v legal next = held_not (plan_of jobs t) v (steps_done past t) (λ lock.
-    let same : lock.at ≡ steps_done past t = (legal t (within_jobs jobs t (steps_done past t) (Lock v) next)).obeys.once lock.at (steps_done past t) v lock.is_lock next in
-    let before : lock.at < steps_done past t = lock.before in
-    absurd (omega arith))
+free_before rows jobs past t v legal next = grind (arith, held_not, within_jobs)
 
 -- the node of a lock is one of the tree
 pub lock_within : (rows : Rows) (jobs : List Job) (past : List Event) (t v : ℕ) → AllLegal rows jobs → next_step jobs past t ≡ Some (Lock v) → v < length rows
@@ -48,9 +46,7 @@ mark_refused core t NoTxn blocked refused =
     let lt : t < length core.jobs = within_jobs core.jobs t (steps_done (past_of core) t) (Lock blocked.1.0) blocked.1.1 in let le : length core.jobs ≤ t = refused in absurd (omega arith)
 mark_refused core t Ended blocked refused = absurd (none-some (Lock blocked.1.0) (sym refused.1 ∙ blocked.1.1))
 mark_refused core t (Blocked holder) blocked refused = absurd (no_take t t refused.0)
-mark_refused core t NotBlocked blocked refused =
-    let same : refused.1.0 ≡ Lock blocked.1.0 = same_Some refused.1.0 (Lock blocked.1.0) (sym refused.1.1 ∙ blocked.1.1) in
-    absurd (both_ways (holds core.jobs (past_of core) blocked.0 blocked.1.0) (refused.1.2 blocked.1.0 same blocked.0 blocked.1.2.0) blocked.1.2.1)
+mark_refused core t NotBlocked blocked refused = grind (arith, both_ways, same_Some)
 mark_refused core t Marked blocked refused = refused.2
 
 -- what marking comes to
@@ -70,7 +66,9 @@ no_step_settled carry (Some (Access i)) h = h
 
 -- the node that a job is to lock isn't out
 pub lock_not_out : (core : CoreState) (carry : Carried) (v : ℕ) → AllLegal core.tree core.jobs → IsOf core carry → next_step core.jobs (past_of core) carry.txn ≡ Some (Lock v) → known_at carry.known v ≡ None
-lock_not_out core carry v legal of next = none_found (known_at carry.known v) (of.out v ∙ free_before core.tree core.jobs (past_of core) carry.txn v legal next)
+lock_not_out core carry v legal of next =
+    none_there (known_at carry.known v)
+    (of.out v ∙ free_before core.tree core.jobs (past_of core) carry.txn v legal next)
 
 -- the step after the entries, as it is read
 pub step_read : (core : CoreState) (carry : Carried) (t n : ℕ) (found : Option Step) → t ≡ carry.txn → n ≡ length carry.entries
