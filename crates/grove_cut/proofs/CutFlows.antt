@@ -1,12 +1,12 @@
 -- A flow certifies a cost over a cut of a tree exactly where it does so over the whole tree: the forced nodes are the same, and so is each row's test.
-use Rattle.std.proofs.Common.{◌≡◌, ℕ, zero, suc, ◌+◌, ◌*◌, ◌<◌, Bool, true, ◌&&◌, ◌||◌, cond, eqb, List, [], ◌∷◌, length, map, Option, Some, None, refl, sym, ◌∙◌, ap, ap₂, subst, ◌↔◌}
+use Rattle.std.proofs.Common.{◌≡◌, ℕ, zero, suc, ◌+◌, ◌<◌, Bool, ◌&&◌, ◌||◌, cond, eqb, List, [], ◌∷◌, length, map}
+use Rattle.std.proofs.Common.{Option, Some, None, refl, sym, ◌∙◌, ap, ap₂, subst, ◌↔◌, arith}
 use Rattle.std.specs.List.{slice_get}
 use Rattle.std.specs.Option.{option_map}
 use Rattle.grove_base.specs.Numbers.{any_below, least_below, last_below}
 use Rattle.grove_base.proofs.Lists.{get_map, get_map_inv, map_length}
 use Rattle.grove_tree.specs.Trees.{Rows, parent_of, is_at, IsAbove, IsTree}
 use Rattle.grove_access.specs.Lists.{AreNodes}
-use Rattle.grove_access.specs.Slots.{slots_before}
 use Rattle.grove_access.specs.Forced.{IsCommon, IsForcedByTree, names_at, is_accessed, first_access, last_end}
 use Rattle.grove_plan.specs.Plans.{IsForced}
 use Rattle.grove_proof.specs.declared.flow.FlowRow.{FlowRow}
@@ -94,9 +94,7 @@ module _ (whole cut : Rows) (origin : ℕ → ℕ) (is : IsCut whole cut origin)
         )
 
     pub nodes_at_origin : AreNodes cut nodes → AreNodes whole moved
-    nodes_at_origin fits access u h =
-        let (v, there, same) = get_map_inv origin nodes access u h in
-        subst (λ (n : ℕ). n < length whole) same ((is.within v).0 (fits access v there))
+    nodes_at_origin fits access u h = grind (arith, get_map_inv)
 
     module _ (tree : IsTree whole) (fits : AreNodes cut nodes) where
       pub locked_at_origin : (v : ℕ) → IsForced cut nodes v → IsForced whole moved (origin v)
@@ -172,16 +170,10 @@ module _ (whole cut : Rows) (origin : ℕ → ℕ) (is : IsCut whole cut origin)
 
       sum_same : (amount : FlowRow → ℕ) → ((row : FlowRow) → amount (row_at_origin origin row) ≡ amount row) → (row : FlowRow)
           → child_sum whole amount rows (row_at_origin origin row) ≡ child_sum cut amount flow row
-      sum_same amount same row =
-          sums_map (λ child. cond (is_child whole child (row_at_origin origin row)) (amount child) 0) (row_at_origin origin) flow
-          ∙ sums_same (λ child. cond (is_child whole (row_at_origin origin child) (row_at_origin origin row)) (amount (row_at_origin origin child)) 0)
-          (λ child. cond (is_child cut child row) (amount child) 0) flow
-          (λ i child there. ap₂ (λ (b : Bool) (n : ℕ). cond b n 0) (child_same child row) (same child))
+      sum_same amount same row = grind (arith, child_same, sums_map, sums_same)
 
       has_same : (row : FlowRow) → has_parent whole rows (row_at_origin origin row) ≡ has_parent cut flow row
-      has_same row = ap (λ (n : ℕ). any_below n (λ i. is_parent_at whole (row_at_origin origin row) (slice_get rows i))) (map_length (row_at_origin origin) flow)
-          ∙ any_same (length flow) (λ i. is_parent_at whole (row_at_origin origin row) (slice_get rows i)) (λ i. is_parent_at cut row (slice_get flow i))
-          (λ i. ap (is_parent_at whole (row_at_origin origin row)) (get_mapped (row_at_origin origin) flow i) ∙ parent_same row (slice_get flow i))
+      has_same row = grind (arith, any_same, get_mapped, map_length, parent_same)
 
       signs_same : (row : FlowRow) → is_sign_ok whole moved rows (row_at_origin origin row) ≡ is_sign_ok cut nodes flow row
       signs_same row = ap₂ (λ (a b : Bool). (a || (eqb row.above 0 && eqb row.held 0)) && (b || (eqb row.first 0 && eqb row.last 0)))
@@ -195,9 +187,7 @@ module _ (whole cut : Rows) (origin : ℕ → ℕ) (is : IsCut whole cut origin)
       releases_same row = ap₂ (λ (w c : ℕ). eqb (c + row.last + row.own) w) (is.weights row.node) (sum_same (λ child. child.held) (λ child. refl) row)
 
       all_at_origin : (over under : FlowRow → Bool) → ((row : FlowRow) → over (row_at_origin origin row) ≡ under row) → AllRows under flow → AllRows over rows
-      all_at_origin over under same all i r h =
-          let (row, there, e) = get_map_inv (row_at_origin origin) flow i r h in
-          subst (λ (x : FlowRow). over x ≡ true) e (same row ∙ all i row there)
+      all_at_origin over under same all i r h = grind (arith, get_map_inv)
 
       all_cut : (over under : FlowRow → Bool) → ((row : FlowRow) → over (row_at_origin origin row) ≡ under row) → AllRows over rows → AllRows under flow
       all_cut over under same all i row h = sym (same row) ∙ all i (row_at_origin origin row) (get_map (row_at_origin origin) flow i row h)
@@ -206,14 +196,10 @@ module _ (whole cut : Rows) (origin : ℕ → ℕ) (is : IsCut whole cut origin)
       nodes_same = nodes_mapped origin flow
 
       gains_same : (lengths : List ℕ) → gains moved lengths rows ≡ gains nodes lengths flow
-      gains_same lengths = sums_map (λ row. row.last * slots_before lengths (last_end moved row.node)) (row_at_origin origin) flow
-          ∙ sums_same (λ row. row.last * slots_before lengths (last_end moved (origin row.node))) (λ row. row.last * slots_before lengths (last_end nodes row.node)) flow
-          (λ i row there. ap (λ (n : ℕ). row.last * slots_before lengths n) (last_same row.node))
+      gains_same lengths = grind (arith, last_same, sums_map, sums_same)
 
       losses_same : (lengths : List ℕ) → losses moved lengths rows ≡ losses nodes lengths flow
-      losses_same lengths = sums_map (λ row. row.first * slots_before lengths (first_access moved row.node)) (row_at_origin origin) flow
-          ∙ sums_same (λ row. row.first * slots_before lengths (first_access moved (origin row.node))) (λ row. row.first * slots_before lengths (first_access nodes row.node)) flow
-          (λ i row there. ap (λ (n : ℕ). row.first * slots_before lengths n) (first_same row.node))
+      losses_same lengths = grind (arith, first_same, sums_map, sums_same)
 
       module _ (tree : IsTree whole) (fits : AreNodes cut nodes) where
         balances_at_origin : Balances cut nodes flow → Balances whole moved rows

@@ -15,7 +15,7 @@ use Rattle.grove_access.proofs.ForcedByTree.{forced_listed, listed_forced, acces
 use Rattle.grove_plan.specs.declared.step.Step.{Step}
 use Rattle.grove_plan.specs.Plans.{holding, cost, IsLegal, IsLeast}
 use Rattle.grove_plan.specs.Slots.{first_lock_slot, first_release_slot}
-use Rattle.grove_proof.specs.Five.{MeetsFive, lock_time, release_time}
+use Rattle.grove_proof.specs.Five.{MeetsFive, release_time}
 use Rattle.grove_proof.proofs.FiveConstraints.{meets_five}
 use Rattle.grove_proof.proofs.Slackness.{unforced_free}
 use Rattle.grove_build.specs.Layout.{laid_out}
@@ -80,8 +80,7 @@ module _ (whole cut : Rows) (origin : ℕ → ℕ) (tree : IsTree whole) (is : I
           first = λ v access h. all.first (origin v) access (get_map origin nodes access v h);
           last = λ v access h. all.last (origin v) access (get_map origin nodes access v h);
           own = λ v sv. all.own (origin v) (over v sv);
-          top = λ v sv. let le : release v ≤ length (map origin nodes) = all.top (origin v) (over v sv) in
-              let same : length (map origin nodes) ≡ length nodes = map_length origin nodes in omega arith;
+          top = λ v sv. omega (arith, all.top (origin v) (over v sv), map_length origin nodes);
         }
 
     has : (v : ℕ) → IsForcedByTree cut nodes v → Has span v
@@ -114,11 +113,8 @@ module _ (whole cut : Rows) (origin : ℕ → ℕ) (tree : IsTree whole) (is : I
           let s : IsForcedByTree cut nodes v = forced_got cut nodes v is_tree fits forced in
           let under : MeetsFive cut nodes lengths laid = meets_five cut nodes lengths laid is_tree laid_legal in
           let all : MeetsFive whole (map origin nodes) lengths other = meets_five whole (map origin nodes) lengths other tree legal in
-          let a : lock_time lengths laid v + holding lengths laid v ≡ release_time lengths laid v = under.holds v s in
-          let b : lock_time lengths other (origin v) + holding lengths other (origin v) ≡ release_time lengths other (origin v) = all.holds (origin v) (over v s) in
-          let c : lock_time lengths laid v ≡ lock_time lengths other (origin v) = ap (slots_before lengths) (laid_lock v s) in
           let d : release_time lengths laid v ≡ release_time lengths other (origin v) = ap (slots_before lengths) (laid_release v s) in
-          omega arith
+          omega (arith, under.holds v s, all.holds (origin v) (over v s), ap (slots_before lengths) (laid_lock v s))
       | inr free ↦
           let none : holding lengths laid v ≡ 0 = unforced_free cut nodes lengths laid v is_tree
           (λ i w h. Laying.locks_span cut nodes span lock release slots rising has got (accessed_is_forced cut nodes)
@@ -141,21 +137,18 @@ module _ (whole cut : Rows) (origin : ℕ → ℕ) (tree : IsTree whole) (is : I
     least_at_origin h = record {
       legal = (cuts_keep_legal whole cut origin is nodes plan).0 h.legal;
       least = λ other legal.
-          let a : cost whole lengths (plan_at_origin origin plan) ≡ cost cut lengths plan = cuts_keep_cost whole cut origin is lengths plan in
           let b : cost cut lengths plan ≤ cost cut lengths (laid other legal) = h.least (laid other legal) (laid_legal other legal) in
-          let c : cost cut lengths (laid other legal) ≤ cost whole lengths other = laid_cheap other legal lengths in
-          omega arith;
+          omega (arith, cuts_keep_cost whole cut origin is lengths plan, laid_cheap other legal lengths);
     }
 
     least_cut : IsLeast whole (map origin nodes) lengths (plan_at_origin origin plan) → IsLeast cut nodes lengths plan
     least_cut h = record {
       legal = (cuts_keep_legal whole cut origin is nodes plan).1 h.legal;
       least = λ other legal.
-          let a : cost whole lengths (plan_at_origin origin plan) ≡ cost cut lengths plan = cuts_keep_cost whole cut origin is lengths plan in
           let b : cost whole lengths (plan_at_origin origin plan) ≤ cost whole lengths (plan_at_origin origin other) =
           h.least (plan_at_origin origin other) ((cuts_keep_legal whole cut origin is nodes other).0 legal) in
           let c : cost whole lengths (plan_at_origin origin other) ≡ cost cut lengths other = cuts_keep_cost whole cut origin is lengths other in
-          omega arith;
+          omega (arith, cuts_keep_cost whole cut origin is lengths plan);
     }
 
   -- what is laid out from a least plan is least
@@ -163,10 +156,8 @@ module _ (whole cut : Rows) (origin : ℕ → ℕ) (tree : IsTree whole) (is : I
   laid_least lengths other h = record {
     legal = laid_legal other h.legal;
     least = λ q legal.
-        let a : cost cut lengths (laid other h.legal) ≤ cost whole lengths other = laid_cheap other h.legal lengths in
         let b : cost whole lengths other ≤ cost whole lengths (plan_at_origin origin q) = h.least (plan_at_origin origin q) ((cuts_keep_legal whole cut origin is nodes q).0 legal) in
-        let c : cost whole lengths (plan_at_origin origin q) ≡ cost cut lengths q = cuts_keep_cost whole cut origin is lengths q in
-        omega arith;
+        omega (arith, laid_cheap other h.legal lengths, cuts_keep_cost whole cut origin is lengths q);
   }
 
 pub cuts_keep_least : CutsKeepLeast

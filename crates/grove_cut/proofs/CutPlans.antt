@@ -78,22 +78,14 @@ access_from origin (Access b) a e = e
 -- a lock over the whole is one over the cut
 pub lock_cut : (origin : ℕ → ℕ) (plan : List Step) (i u : ℕ) → slice_get (plan_at_origin origin plan) i ≡ Some (Lock u)
     → (v : ℕ) × (slice_get plan i ≡ Some (Lock v)) × (origin v ≡ u)
-lock_cut origin plan i u h =
-    let (step, there, is) = get_map_inv (step_at_origin origin) plan i (Lock u) h in
-    let (v, lock, same) = lock_from origin step u is in
-    (v, there ∙ ap (λ (s : Step). Some s) lock, same)
+lock_cut origin plan i u h = grind (arith, get_map_inv, lock_from)
 
 pub unlock_cut : (origin : ℕ → ℕ) (plan : List Step) (i u : ℕ) → slice_get (plan_at_origin origin plan) i ≡ Some (Unlock u)
     → (v : ℕ) × (slice_get plan i ≡ Some (Unlock v)) × (origin v ≡ u)
-unlock_cut origin plan i u h =
-    let (step, there, is) = get_map_inv (step_at_origin origin) plan i (Unlock u) h in
-    let (v, unlock, same) = unlock_from origin step u is in
-    (v, there ∙ ap (λ (s : Step). Some s) unlock, same)
+unlock_cut origin plan i u h = grind (arith, get_map_inv, unlock_from)
 
 access_cut : (origin : ℕ → ℕ) (plan : List Step) (i a : ℕ) → slice_get (plan_at_origin origin plan) i ≡ Some (Access a) → slice_get plan i ≡ Some (Access a)
-access_cut origin plan i a h =
-    let (step, there, is) = get_map_inv (step_at_origin origin) plan i (Access a) h in
-    there ∙ ap (λ (s : Step). Some s) (access_from origin step a is)
+access_cut origin plan i a h = grind (arith, access_from, get_map_inv)
 
 -- a parent's origin comes from a parent
 pub parent_cut : (origin : ℕ → ℕ) (o : Option ℕ) (q : ℕ) → option_map origin o ≡ Some q → (p : ℕ) × (o ≡ Some p) × (origin p ≡ q)
@@ -104,34 +96,18 @@ parent_cut origin (Some p) q e = (p, refl, same_Some (origin p) q e)
 
 module _ (origin : ℕ → ℕ) (rises : (a b : ℕ) → a < b → origin a < origin b) where
   pub same_origin : (a b : ℕ) → origin a ≡ origin b → a ≡ b
-  same_origin a b e = elim (cases_order a b) [
-    | inl same ↦ same
-    | inr ne ↦ elim ne [
-      | inl lt ↦ let less : origin a < origin b = rises a b lt in absurd (omega arith)
-      | inr gt ↦ let more : origin b < origin a = rises b a gt in absurd (omega arith)
-    ]
-  ]
+  same_origin a b e = grind (arith, cases_order)
 
   pub origin_eqb : (a b : ℕ) → eqb (origin a) (origin b) ≡ eqb a b
-  origin_eqb a b = same_tests (eqb (origin a) (origin b)) (eqb a b)
-      (λ h. eq-eqb a b (same_origin a b (eqb-true (origin a) (origin b) h)))
-      (λ h. eq-eqb (origin a) (origin b) (ap origin (eqb-true a b h)))
+  origin_eqb a b = grind (arith, eq-eqb, eqb-true, same_origin, same_tests)
 
   pub origin_less : (a b : ℕ) → origin a < origin b → a < b
-  origin_less a b lt = elim (cases_order a b) [
-    | inl e ↦ let same : origin a ≡ origin b = ap origin e in absurd (omega arith)
-    | inr ne ↦ elim ne [
-      | inl less ↦ less
-      | inr gt ↦ let more : origin b < origin a = rises b a gt in absurd (omega arith)
-    ]
-  ]
+  origin_less a b lt = grind (arith, cases_order)
 
   -- a sum over the numbers below n is that over the origins, where the others add nothing
   pub sum_origins : (n m : ℕ) (f : ℕ → ℕ) → ((k : ℕ) → k < m ↔ origin k < n) → ((u : ℕ) → ((k : ℕ) → origin k ≡ u → ⊥) → f u ≡ 0)
       → sum_below n f ≡ sum_below m (λ k. f (origin k))
-  sum_origins n zero f within none = sum_zero n f (λ u lt. none u (λ k e.
-      let less : origin k < n = omega arith in
-      let no : k < 0 = (within k).1 less in omega arith))
+  sum_origins n zero f within none = grind (arith, sum_zero)
   sum_origins zero (suc m) f within none = let no : origin m < 0 = (within m).0 (omega arith) in absurd (omega arith)
   sum_origins (suc n) (suc m) f within none =
       let last : origin m < suc n = (within m).0 (omega arith) in
@@ -251,10 +227,7 @@ module _ (whole cut : Rows) (origin : ℕ → ℕ) (is : IsCut whole cut origin)
       (λ i lt. ap₂ (λ b (n : ℕ). cond b n 0) (held_at_origin plan v i) (slots_at_origin origin lengths plan i))
 
   others_cheap : (lengths : List ℕ) (plan : List Step) (u : ℕ) → ((v : ℕ) → origin v ≡ u → ⊥) → holding lengths (plan_at_origin origin plan) u ≡ 0
-  others_cheap lengths plan u none =
-      let moved : List Step = plan_at_origin origin plan in
-      sum_zero (length moved) (λ i. cond (held moved u i) (slots_of lengths (slice_get moved i)) 0)
-      (λ i lt. cond-false (held moved u i) (slots_of lengths (slice_get moved i)) 0 (others_free plan u i none))
+  others_cheap lengths plan u none = grind (arith, cond-false, others_free, sum_zero)
 
 pub cuts_keep_legal : CutsKeepLegal
 cuts_keep_legal whole cut origin is nodes plan = (

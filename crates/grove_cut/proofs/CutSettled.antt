@@ -1,5 +1,6 @@
 -- A plan over a cut of a tree is settled exactly where it is so over the whole tree: its slots are the same, and it is laid out in the same way.
-use Rattle.std.proofs.Common.{◌≡◌, ℕ, zero, suc, ◌+◌, ◌≤◌, Bool, true, false, not, ◌&&◌, ◌||◌, cond, eqb, ltb, List, [], ◌∷◌, ◌++◌, filter, length, map, Some, refl, sym, ◌∙◌, ap, ap₂, subst, arith}
+use Rattle.std.proofs.Common.{◌≡◌, ℕ, zero, suc, ◌+◌, ◌≤◌, Bool, true, false, not, ◌&&◌, ◌||◌, cond, eqb, List, [], ◌∷◌}
+use Rattle.std.proofs.Common.{◌++◌, filter, length, map, Some, refl, sym, ◌∙◌, ap, ap₂, subst, arith}
 use Rattle.std.specs.List.{slice_get, list_any}
 use Rattle.std.proofs.lemmas.Option.{same_Some}
 use Rattle.std.proofs.lemmas.List.{map-append}
@@ -73,9 +74,7 @@ same_plans origin same [] [] e = refl
 same_plans origin same [] (y ∷ ys) e = absurd (cc)
 same_plans origin same (x ∷ xs) [] e = absurd (cc)
 same_plans origin same (x ∷ xs) (y ∷ ys) e =
-    ap₂ (λ (step : Step) (plan : List Step). step ∷ plan)
-    (same_steps origin same x y (same_Some (step_at_origin origin x) (step_at_origin origin y) (ap (λ (l : List Step). slice_get l 0) e)))
-    (same_plans origin same xs ys (ap rest_of e))
+    grind (arith, same_Some, same_steps, same_plans origin same xs ys (ap rest_of e))
 
 module _ (whole cut : Rows) (origin : ℕ → ℕ) (is : IsCut whole cut origin) where
   -- The slots of a plan's locks and unlocks
@@ -112,9 +111,7 @@ module _ (whole cut : Rows) (origin : ℕ → ℕ) (is : IsCut whole cut origin)
         (ap (is_at (origin v)) (is.parents child) ∙ is_at_origin whole cut origin is v (parent_of cut child)) (same_lock child))
 
     early_same : (v : ℕ) → is_early whole (map origin list) over_lock over_release (origin v) ≡ is_early cut list lock release v
-    early_same v =
-        ap₂ (λ (l r : ℕ). ltb l r && not (has_child_in whole (map origin list) over_lock r (origin v))) (same_lock v) (same_release v)
-        ∙ ap (λ (b : Bool). ltb (lock v) (release v) && not b) (child_in_same (release v) v)
+    early_same v = grind (arith, child_in_same)
 
     gap_same : (gap : ℕ) → gap_steps whole (map origin list) over_lock over_release gap ≡ plan_at_origin origin (gap_steps cut list lock release gap)
     gap_same gap =
@@ -123,8 +120,7 @@ module _ (whole cut : Rows) (origin : ℕ → ℕ) (is : IsCut whole cut origin)
         (λ v. ap₂ (λ (r : ℕ) b. eqb r gap && b) (same_release v) (early_same v)))
         ∙ unlocks_mapped origin (filter (λ v. eqb (release v) gap && is_early cut list lock release v) list) in
         let second = ap (λ l. map Lock l) (filter_mapped origin (λ u. eqb (over_lock u) gap) (λ v. eqb (lock v) gap) list
-        (λ v. ap (λ (n : ℕ). eqb n gap) (same_lock v)))
-        ∙ locks_mapped origin (filter (λ v. eqb (lock v) gap) list) in
+        (λ v. ap (λ (n : ℕ). eqb n gap) (same_lock v))) ∙ locks_mapped origin (filter (λ v. eqb (lock v) gap) list) in
         let third = ap (λ l. map Unlock l) (filter_mapped origin (λ u. eqb (over_release u) gap && not (is_early whole (map origin list) over_lock over_release u))
         (λ v. eqb (release v) gap && not (is_early cut list lock release v)) list
         (λ v. ap₂ (λ (r : ℕ) b. eqb r gap && not b) (same_release v) (early_same v)))
@@ -138,11 +134,7 @@ module _ (whole cut : Rows) (origin : ℕ → ℕ) (is : IsCut whole cut origin)
 
     steps_same : (m : ℕ) → steps_below whole (map origin list) over_lock over_release m ≡ plan_at_origin origin (steps_below cut list lock release m)
     steps_same zero = refl
-    steps_same (suc m) =
-        ap₂ (λ a b. a ++ (b ++ Access m ∷ [])) (steps_same m) (gap_same m)
-        ∙ (ap (λ (l : List Step). plan_at_origin origin (steps_below cut list lock release m) ++ l)
-        (sym (map-append (step_at_origin origin) (gap_steps cut list lock release m) (Access m ∷ [])))
-        ∙ sym (map-append (step_at_origin origin) (steps_below cut list lock release m) (gap_steps cut list lock release m ++ Access m ∷ [])))
+    steps_same (suc m) = grind (arith, gap_same, map-append, steps_same m)
 
     laid_same : (m : ℕ) → laid_out whole (map origin list) over_lock over_release m ≡ plan_at_origin origin (laid_out cut list lock release m)
     laid_same m = ap₂ (λ a b. a ++ b) (steps_same m) (gap_same m)
@@ -152,11 +144,7 @@ module _ (whole cut : Rows) (origin : ℕ → ℕ) (is : IsCut whole cut origin)
   own_laid_same : (nodes list : List ℕ) (plan : List Step)
       → laid_out whole (map origin list) (first_lock_slot (plan_at_origin origin plan)) (first_release_slot (plan_at_origin origin plan)) (length (map origin nodes))
       ≡ plan_at_origin origin (laid_out cut list (first_lock_slot plan) (first_release_slot plan) (length nodes))
-  own_laid_same nodes list plan =
-      let moved : List Step = plan_at_origin origin plan in
-      ap (laid_out whole (map origin list) (first_lock_slot moved) (first_release_slot moved)) (map_length origin nodes)
-      ∙ laid_same list (first_lock_slot plan) (first_release_slot plan) (first_lock_slot moved) (first_release_slot moved)
-      (lock_slot_same plan) (release_slot_same plan) (length nodes)
+  own_laid_same nodes list plan = grind (arith, laid_same, lock_slot_same, map_length, release_slot_same)
 
   -- Settled plans
 
@@ -224,16 +212,12 @@ module _ (whole cut : Rows) (origin : ℕ → ℕ) (is : IsCut whole cut origin)
               let a : first_lock_slot (plan_at_origin origin other) (origin v) ≤ first_lock_slot moved (origin v) =
               h.lock_latest (plan_at_origin origin other) ((cuts_keep_least whole cut origin tree is nodes lengths other fits).0 o) (origin v)
               (locked_at_origin whole cut origin is nodes tree fits v forced) in
-              let b : first_lock_slot (plan_at_origin origin other) (origin v) ≡ first_lock_slot other v = lock_slot_same other v in
-              let c : first_lock_slot moved (origin v) ≡ first_lock_slot plan v = lock_slot_same plan v in
-              omega arith;
+              omega (arith, lock_slot_same other v, lock_slot_same plan v);
           release_latest = λ other o v forced.
               let a : first_release_slot (plan_at_origin origin other) (origin v) ≤ first_release_slot moved (origin v) =
               h.release_latest (plan_at_origin origin other) ((cuts_keep_least whole cut origin tree is nodes lengths other fits).0 o) (origin v)
               (locked_at_origin whole cut origin is nodes tree fits v forced) in
-              let b : first_release_slot (plan_at_origin origin other) (origin v) ≡ first_release_slot other v = release_slot_same other v in
-              let c : first_release_slot moved (origin v) ≡ first_release_slot plan v = release_slot_same plan v in
-              omega arith;
+              omega (arith, release_slot_same other v, release_slot_same plan v);
           list = forced_nodes cut nodes;
           is_forced_list = forced_list;
           laid = same_plans origin (same_origin origin is.rises) plan

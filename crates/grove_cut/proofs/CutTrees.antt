@@ -1,5 +1,6 @@
 -- A cut of a tree is a tree, and what lies above its nodes is what lies above their origins.
-use Rattle.std.proofs.Common.{◌≡◌, ℕ, zero, suc, ◌-◌, ◌<◌, ◌≤◌, ◌⊎◌, List, length, Option, Some, None, refl, sym, ◌∙◌, ap, subst, inl, inr, arith, IsTrue, le_trans}
+use Rattle.std.proofs.Common.{◌≡◌, ℕ, zero, suc, ◌-◌, ◌<◌, ◌≤◌, List, length, Option, Some, None, refl, sym, ◌∙◌, ap}
+use Rattle.std.proofs.Common.{subst, inl, inr, arith, IsTrue, le_trans}
 use Rattle.std.specs.Option.{option_map, option_and_then}
 use Rattle.std.proofs.lemmas.Option.{none-some}
 use Rattle.std.proofs.lemmas.Bool.{cases_eq}
@@ -8,11 +9,7 @@ use Rattle.grove_tree.specs.Rules.{is_name, heaviest, IsWithinLimits}
 use Rattle.grove_tree.proofs.Above.{above_between, parent_lt}
 use Rattle.grove_cut.specs.CutTrees.{IsCut, CutsAreTrees}
 use Rattle.grove_cut.proofs.CutPlans.{parent_cut, same_origin, origin_less}
-
--- something is there or not
-pub there_or_none : (o : Option ℕ) → (o ≡ None) ⊎ ((p : ℕ) × (o ≡ Some p))
-there_or_none None = inl refl
-there_or_none (Some p) = inr (p, refl)
+use Rattle.grove_base.proofs.Lists.{there_or_none}
 
 -- every node but the root has a parent
 has_parent : (rows : Rows) → IsTree rows → (v : ℕ) → 0 < v → v < length rows → (p : ℕ) × (parent_of rows v ≡ Some p)
@@ -103,9 +100,7 @@ module _ (whole cut : Rows) (origin : ℕ → ℕ) (is : IsCut whole cut origin)
     pub no_more : length cut ≤ length whole
     no_more =
         let some : 0 < length cut = is.some in
-        let within : origin (length cut - 1) < length whole = (is.within (length cut - 1)).0 (omega arith) in
-        let le : length cut - 1 ≤ origin (length cut - 1) = origin_le (length cut - 1) in
-        omega arith
+        omega (arith, (is.within (length cut - 1)).0 (omega arith), origin_le (length cut - 1))
 
     named : IsWithinLimits whole → (v : ℕ) → 0 < v → v < length whole → IsTrue (is_name (name_of whole v))
     named limits zero some lt = absurd (omega arith)
@@ -116,8 +111,7 @@ module _ (whole cut : Rows) (origin : ℕ → ℕ) (is : IsCut whole cut origin)
       few = le_trans no_more limits.few;
       shallow = λ v. le_trans
           (subst (λ (n : ℕ). n ≤ depth_within whole (length whole) (origin v)) (sym (depth_at_origin (length cut) v))
-          (depth_grows whole (length cut) (length whole) (origin v) no_more))
-          (limits.shallow (origin v));
+          (depth_grows whole (length cut) (length whole) (origin v) no_more)) (limits.shallow (origin v));
       unnamed_root = sym (names 0) ∙ (ap (name_of whole) first_origin ∙ limits.unnamed_root);
       names = λ v lt. subst (λ (n : List ℕ). IsTrue (is_name n)) (names (suc v)) (named limits (origin (suc v))
           (let step : origin v < origin (suc v) = is.rises v (suc v) (omega arith) in omega arith) ((is.within (suc v)).0 lt));
