@@ -1,9 +1,10 @@
 -- Plans laid out from numbers that agree on the list are the same.
-use Rattle.std.proofs.Common.{◌≡◌, ℕ, zero, suc, Bool, not, ◌&&◌, List, [], ◌∷◌, ◌++◌, map, filter, refl, ◌∙◌, ap, ap₂, cond, eqb, ltb, ◌||◌}
+use Rattle.std.proofs.Common.{◌≡◌, ℕ, zero, suc, Bool, not, ◌&&◌, List, [], ◌∷◌, ◌++◌, map, filter, refl, ◌∙◌, ap, ap₂}
+use Rattle.std.proofs.Common.{cond, eqb, ◌||◌, arith}
 use Rattle.std.specs.List.{list_any}
-use Rattle.grove_tree.specs.Trees.{Rows, parent_of, is_at}
+use Rattle.grove_tree.specs.Trees.{Rows}
 use Rattle.grove_plan.specs.declared.step.Step.TheVariants.{Lock, Unlock, Access}
-use Rattle.grove_build.specs.Layout.{has_child_in, is_early, gap_steps, steps_below, laid_out}
+use Rattle.grove_build.specs.Layout.{is_early, gap_steps, steps_below, laid_out}
 use Rattle.grove_build.proofs.Runs.{Has}
 
 filter_alike : {A : Type 0} (p q : A → Bool) (xs : List A) → ((x : A) → Has xs x → p x ≡ q x)
@@ -23,14 +24,7 @@ module _ (rows : Rows) (span : List ℕ) (lock release lock2 release2 : ℕ → 
     (same_lock : (v : ℕ) → Has span v → lock v ≡ lock2 v)
     (same_release : (v : ℕ) → Has span v → release v ≡ release2 v) where
   early_alike : (v : ℕ) → Has span v → is_early rows span lock release v ≡ is_early rows span lock2 release2 v
-  early_alike v h =
-      let c : has_child_in rows span lock (release v) v ≡ has_child_in rows span lock2 (release v) v =
-      any_alike (λ u. is_at v (parent_of rows u) && eqb (lock u) (release v))
-      (λ u. is_at v (parent_of rows u) && eqb (lock2 u) (release v)) span
-      (λ u k. ap (λ (l : ℕ). is_at v (parent_of rows u) && eqb l (release v)) (same_lock u k)) in
-      ap (λ b. ltb (lock v) (release v) && not b) c
-      ∙ (ap (λ (l : ℕ). ltb l (release v) && not (has_child_in rows span lock2 (release v) v)) (same_lock v h)
-      ∙ ap (λ (r : ℕ). ltb (lock2 v) r && not (has_child_in rows span lock2 r v)) (same_release v h))
+  early_alike v h = grind (arith, any_alike)
 
   gap_alike : (g : ℕ) → gap_steps rows span lock release g ≡ gap_steps rows span lock2 release2 g
   gap_alike g =

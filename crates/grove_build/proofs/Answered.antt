@@ -1,5 +1,7 @@
 -- The stays read from the solved network give the settled plan.
-use Rattle.std.proofs.Common.{◌≡◌, ℕ, zero, suc, ◌+◌, ◌-◌, ◌*◌, ◌<◌, ◌≤◌, ◌&&◌, Bool, true, false, not, cond, eqb, ltb, List, [], ◌∷◌, ◌++◌, map, filter, length, get_or, Option, Some, None, pos, refl, sym, ◌∙◌, ap, ap₂, subst, inl, inr, arith, length-append}
+use Rattle.std.proofs.Common.{◌≡◌, ℕ, zero, suc, ◌+◌, ◌-◌, ◌*◌, ◌<◌, ◌≤◌, ◌&&◌, Bool, true, false, not, cond, eqb, List}
+use Rattle.std.proofs.Common.{[], ◌∷◌, ◌++◌, map, filter, length, get_or, Option, Some, None, pos, refl, sym, ◌∙◌, ap}
+use Rattle.std.proofs.Common.{ap₂, subst, inl, inr, arith, length-append}
 use Rattle.std.specs.Prelude.{slice_index, filter_map}
 use Rattle.std.specs.List.{slice_get, list_any, sum_by, cons_option}
 use Rattle.std.specs.Option.{option_and_then, unwrap_or}
@@ -9,7 +11,7 @@ use Rattle.std.proofs.lemmas.List.Sums.{sum_by-cons}
 use Rattle.grove_tree.specs.Trees.{Rows, parent_of, weight_of, is_at}
 use Rattle.grove_base.proofs.Counting.{any_from, any_true, passing_once, same_tests}
 use Rattle.grove_tree.specs.Rules.{IsWithinLimits}
-use Rattle.grove_base.proofs.Lists.{get_map, get_map_inv}
+use Rattle.grove_base.proofs.Lists.{get_map, get_map_inv, item_there}
 use Rattle.grove_access.specs.Slots.{slots_before}
 use Rattle.grove_base.specs.Numbers.{sum_below}
 use Rattle.grove_access.proofs.Slots.{slots_rise}
@@ -33,7 +35,6 @@ use Rattle.grove_build.proofs.Laying.{any_has}
 use Rattle.grove_build.proofs.Found.{place_found, place_there, row_spanned}
 use Rattle.grove_build.proofs.Latest.{latest_fits}
 use Rattle.grove_build.proofs.Needs.{parent_at}
-use Rattle.grove_build.proofs.Asked.{get_within}
 use Rattle.grove_build.proofs.Settles.{settles, certifies, costs}
 
 -- a sum over the places of rows is one over the rows
@@ -92,8 +93,7 @@ module _ (tree : Rows) (nodes lengths : List ℕ) (rows : List SpanRow) (amounts
   release v = slice_index gaps (2 * at v + 1)
 
   there : (k : ℕ) (row : SpanRow) → slice_get rows k ≡ Some row → slice_get span k ≡ Some row.node
-  there k row g = let P : List ℕ → Type 0 = λ xs. slice_get xs k ≡ Some row.node in
-      subst P is_span.named (get_map node_of_row rows k row g)
+  there k row g = grind (arith, get_map)
 
   at_is : (k : ℕ) (row : SpanRow) → slice_get rows k ≡ Some row → at row.node ≡ k
   at_is k row g =
@@ -114,17 +114,11 @@ module _ (tree : Rows) (nodes lengths : List ℕ) (rows : List SpanRow) (amounts
 
   lock_gap : (k : ℕ) → k < length rows → (slice_index gaps (2 * k) ≤ length nodes)
       × (pos (slots_before lengths (slice_index gaps (2 * k))) ≡ place solved.places (2 * k))
-  lock_gap k lt =
-      let size : length solved.places ≡ 2 * length rows + 1 = places_size in
-      let within : 2 * k < length solved.places = omega arith in
-      (solved.are_gaps.within (2 * k) within, solved.are_gaps.at (2 * k) within)
+  lock_gap k lt = grind (arith, places_size)
 
   release_gap : (k : ℕ) → k < length rows → (slice_index gaps (2 * k + 1) ≤ length nodes)
       × (pos (slots_before lengths (slice_index gaps (2 * k + 1))) ≡ place solved.places (2 * k + 1))
-  release_gap k lt =
-      let size : length solved.places ≡ 2 * length rows + 1 = places_size in
-      let within : 2 * k + 1 < length solved.places = omega arith in
-      (solved.are_gaps.within (2 * k + 1) within, solved.are_gaps.at (2 * k + 1) within)
+  release_gap k lt = grind (arith, places_size)
 
   pub low : (k : ℕ) (row : SpanRow) → slice_get rows k ≡ Some row
       → (lock row.node ≤ length nodes) × (release row.node ≤ length nodes)
@@ -158,14 +152,13 @@ module _ (tree : Rows) (nodes lengths : List ℕ) (rows : List SpanRow) (amounts
       sym (lock_is (a.1).0 m.0 m.1)
       ∙ (ap (λ v. lock v) m.2 ∙ (eqb-true (lock a.0) (release row.node) parts.1 ∙ release_is k row g)) in
       any_from (length rows) (λ i. has_parent_at rows k i
-      && eqb (slice_index gaps (2 * i)) (slice_index gaps (2 * k + 1))) (a.1).0
-      (slice_get_within rows (a.1).0 m.0 m.1)
+      && eqb (slice_index gaps (2 * i)) (slice_index gaps (2 * k + 1))) (a.1).0 (slice_get_within rows (a.1).0 m.0 m.1)
       (and_from (has_parent_at rows k (a.1).0) (eqb (slice_index gaps (2 * (a.1).0)) (slice_index gaps (2 * k + 1)))
       (ap (λ o. is_at k (option_and_then (λ (r : SpanRow). r.parent) o)) m.1 ∙ up_here) (eq-eqb _ _ same)))
       (λ h.
       let a = any_true (length rows) (λ i. has_parent_at rows k i
       && eqb (slice_index gaps (2 * i)) (slice_index gaps (2 * k + 1))) h in
-      let r = get_within rows a.0 a.1 in
+      let r = item_there rows a.0 a.1 in
       let parts = and_parts (has_parent_at rows k a.0)
       (eqb (slice_index gaps (2 * a.0)) (slice_index gaps (2 * k + 1))) a.2 in
       let up_here : is_at k (r.0).parent ≡ true =
@@ -186,13 +179,7 @@ module _ (tree : Rows) (nodes lengths : List ℕ) (rows : List SpanRow) (amounts
       → get_or needed j false ≡ is_needed rows gaps (length rows) j) where
     early_same : (k : ℕ) (row : SpanRow) → slice_get rows k ≡ Some row
         → is_early_at gaps needed k ≡ is_early tree span lock release row.node
-    early_same k row g =
-        ap (λ b. ltb (slice_index gaps (2 * k)) (slice_index gaps (2 * k + 1)) && not b)
-        (marked k (slice_get_within rows k row g) ∙ sym (child_same k row g))
-        ∙ (ap (λ (n : ℕ). ltb n (slice_index gaps (2 * k + 1))
-        && not (has_child_in tree span lock (release row.node) row.node)) (sym (lock_is k row g))
-        ∙ ap (λ (n : ℕ). ltb (lock row.node) n && not (has_child_in tree span lock (release row.node) row.node))
-        (sym (release_is k row g)))
+    early_same k row g = grind (arith, child_same, lock_is, release_is, slice_get_within)
 
     zero_plus : (i : ℕ) → 0 + i ≡ i
     zero_plus i = omega arith
@@ -239,11 +226,7 @@ module _ (tree : Rows) (nodes lengths : List ℕ) (rows : List SpanRow) (amounts
       let lt = slice_get_within rows k row g in
       let heavy : slice_index (weights_of tree rows) k ≡ weight_of tree row.node =
       get_or_from_slice_get (weights_of tree rows) k (weight_of tree row.node) 0 (get_map (λ (r : SpanRow). weight_of tree r.node) rows k row g) in
-      let from : slice_index slots (slice_index gaps (2 * k)) ≡ slots_before lengths (lock row.node) =
-      are_slots.each (slice_index gaps (2 * k)) (lock_gap k lt).0 ∙ ap (slots_before lengths) (sym (lock_is k row g)) in
-      let until : slice_index slots (slice_index gaps (2 * k + 1)) ≡ slots_before lengths (release row.node) =
-      are_slots.each (slice_index gaps (2 * k + 1)) (release_gap k lt).0 ∙ ap (slots_before lengths) (sym (release_is k row g)) in
-      ap₂ (λ a b. a * b) heavy (ap₂ (λ a b. a - b) until from))
+      grind (arith, lock_gap, lock_is, release_gap, release_is))
 
 pub stays_length : (gaps : List ℕ) (needed : List Bool) (k : ℕ) (rows : List SpanRow)
     → length (stays_from gaps needed k rows) ≡ length rows
@@ -257,9 +240,7 @@ stays_end : (gaps : List ℕ) (needed : List Bool) (m k : ℕ) (rows : List Span
 stays_end gaps needed m k [] low i stay h = absurd (none-some stay h)
 stays_end gaps needed m k (row ∷ rows) low zero stay h =
     let e : k + 0 ≡ k = omega arith in
-    let P : ℕ → Type 0 = λ n. (slice_index gaps (2 * n) ≤ m) × (slice_index gaps (2 * n + 1) ≤ m) in
-    let Q : Stay → Type 0 = λ s. (s.lock ≤ m) × (s.release ≤ m) in
-    subst Q (same_Some (stay_of gaps needed k row) stay h) (subst P e (low 0 (omega arith)))
+    grind (arith, low, same_Some)
 stays_end gaps needed m k (row ∷ rows) low (suc i) stay h =
     stays_end gaps needed m (suc k) rows
     (λ j lt. let P : ℕ → Type 0 = λ n. (slice_index gaps (2 * n) ≤ m) × (slice_index gaps (2 * n + 1) ≤ m) in
@@ -275,16 +256,7 @@ few_kept h (stay ∷ stays) = kept (h stay) (few_kept h stays)
     kept (Some x) le = omega arith
 
 gap_few : (stays : List Stay) (g : ℕ) → length stays ≤ 4096 → length (stay_steps stays g) ≤ 12288
-gap_few stays g few =
-    let a : length (filter_map (step_in g Early) stays) ≤ length stays = few_kept (step_in g Early) stays in
-    let b : length (filter_map (step_in g Locks) stays) ≤ length stays = few_kept (step_in g Locks) stays in
-    let c : length (filter_map (step_in g Late) stays) ≤ length stays = few_kept (step_in g Late) stays in
-    omega (
-      arith,
-      length-append (filter_map (step_in g Early) stays)
-          (filter_map (step_in g Locks) stays ++ filter_map (step_in g Late) stays),
-      length-append (filter_map (step_in g Locks) stays) (filter_map (step_in g Late) stays),
-    )
+gap_few stays g few = grind (arith, few_kept, length-append)
 
 below_few : (stays : List Stay) (m : ℕ) → length stays ≤ 4096 → length (stay_steps_below stays m) ≤ 12289 * m
 below_few stays zero few = omega arith
@@ -294,16 +266,18 @@ below_few stays (suc m) few =
     omega (
       arith,
       length-append (stay_steps_below stays m) (stay_steps stays m ++ Access m ∷ []),
-      length-append
-          (stay_steps stays m) (Access m ∷ []),
+      length-append (stay_steps stays m) (Access m ∷ []),
     )
 
 pub steps_few : (stays : List Stay) (m : ℕ) → length stays ≤ 4096 → m ≤ 64
     → length (stay_steps_below stays m ++ stay_steps stays m) ≤ 1000000
 steps_few stays m few short =
-    let a : length (stay_steps_below stays m) ≤ 12289 * m = below_few stays m few in
-    let b : length (stay_steps stays m) ≤ 12288 = gap_few stays m few in
-    omega (arith, length-append (stay_steps_below stays m) (stay_steps stays m))
+    omega (
+      arith,
+      length-append (stay_steps_below stays m) (stay_steps stays m),
+      below_few stays m few,
+      gap_few stays m few,
+    )
 
 module _ (tree : Rows) (nodes lengths : List ℕ) (rows : List SpanRow) (amounts gaps : List ℕ)
     (is_span : IsSpan tree nodes lengths rows) (solved : IsSolved tree lengths (length nodes) rows amounts gaps)
@@ -313,23 +287,18 @@ module _ (tree : Rows) (nodes lengths : List ℕ) (rows : List SpanRow) (amounts
 
   pub gaps_within : (slots : List ℕ) → AreSlots lengths (length nodes) slots → (v : ℕ) → v < length gaps
       → slice_index gaps v < length slots
-  gaps_within slots are_slots v lt =
-      let size : length slots ≡ suc (length nodes) = are_slots.size in
-      let long : length gaps ≡ length solved.places = solved.are_gaps.size in
-      let within : slice_index gaps v ≤ length nodes = solved.are_gaps.within v (omega arith) in
-      omega arith
+  gaps_within slots are_slots v lt = grind (arith)
 
   pub stays_within : (needed : List Bool) → AreWithin (length nodes) (stays_from gaps needed 0 rows)
   stays_within needed = stays_end gaps needed (length nodes) 0 rows
       (λ i lt. let P : ℕ → Type 0 = λ n. (slice_index gaps (2 * n) ≤ length nodes) × (slice_index gaps (2 * n + 1) ≤ length nodes) in
-      let e : i ≡ 0 + i = omega arith in
-      subst P e ((lock_gap tree nodes lengths rows amounts gaps is_span solved i lt).0, (release_gap tree nodes lengths rows amounts gaps is_span solved i lt).0))
+      grind (arith, lock_gap, release_gap))
 
   -- no node is released before it is locked
   pub gaps_fit : (flow : List FlowRow) → IsRead rows amounts flow → (slots : List ℕ) → AreSlots lengths (length nodes) slots → (k : ℕ) → k < length rows
       → slice_index slots (slice_index gaps (2 * k)) ≤ slice_index slots (slice_index gaps (2 * k + 1))
   gaps_fit flow read slots are_slots k lt =
-      let r = get_within rows k lt in
+      let r = item_there rows k lt in
       let fits = latest_fits tree nodes lengths rows is_span amounts solved.places solved.latest flow read
       (lock tree nodes lengths rows amounts gaps is_span solved) (release tree nodes lengths rows amounts gaps is_span solved)
       (low tree nodes lengths rows amounts gaps is_span solved) (locks tree nodes lengths rows amounts gaps is_span solved) (releases tree nodes lengths rows amounts gaps is_span solved) in
@@ -340,13 +309,7 @@ module _ (tree : Rows) (nodes lengths : List ℕ) (rows : List SpanRow) (amounts
       lock_is tree nodes lengths rows amounts gaps is_span solved k r.0 r.1 in
       let b : release tree nodes lengths rows amounts gaps is_span solved (r.0).node ≡ slice_index gaps (2 * k + 1) =
       release_is tree nodes lengths rows amounts gaps is_span solved k r.0 r.1 in
-      let rise = slots_rise lengths (slice_index gaps (2 * k)) (slice_index gaps (2 * k + 1)) (omega arith) in
-      omega (
-        arith,
-        rise,
-        are_slots.each (slice_index gaps (2 * k)) (lock_gap tree nodes lengths rows amounts gaps is_span solved k lt).0,
-        are_slots.each (slice_index gaps (2 * k + 1)) (release_gap tree nodes lengths rows amounts gaps is_span solved k lt).0,
-      )
+      grind (arith, lock_gap, release_gap, slots_rise)
 
   module _ (limits : IsWithinLimits tree) (flow : List FlowRow) (read : IsRead rows amounts flow) (needed : List Bool)
       (marked : (j : ℕ) → j < length rows → get_or needed j false ≡ is_needed rows gaps (length rows) j) where

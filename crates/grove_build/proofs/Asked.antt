@@ -1,5 +1,6 @@
 -- What the solver asks of the network of a span, and of the places that it begins from.
-use Rattle.std.proofs.Common.{◌≡◌, ℕ, zero, suc, ◌+◌, ◌-◌, ◌*◌, ◌<◌, ◌≤◌, List, [], ◌∷◌, map, length, Some, ℤ, pos, negsuc, neg_ℤ, refl, sym, ◌∙◌, ap, subst, inl, inr, arith}
+use Rattle.std.proofs.Common.{◌≡◌, ℕ, zero, suc, ◌+◌, ◌-◌, ◌*◌, ◌<◌, ◌≤◌, List, [], ◌∷◌, map, length, Some, ℤ, pos}
+use Rattle.std.proofs.Common.{negsuc, neg_ℤ, refl, sym, ◌∙◌, ap, subst, arith}
 use Rattle.std.specs.Prelude.{slice_index}
 use Rattle.std.specs.List.{slice_get}
 use Rattle.std.proofs.lemmas.Int.{ints}
@@ -8,7 +9,7 @@ use Rattle.std.proofs.lemmas.List.{get_or_past}
 use Rattle.std.proofs.lemmas.Option.{same_Some, slice_get_within, get_or_from_slice_get}
 use Rattle.grove_tree.specs.Trees.{Rows, weight_of}
 use Rattle.grove_tree.specs.Rules.{IsWithinLimits}
-use Rattle.grove_base.proofs.Lists.{get_map_inv, map_length}
+use Rattle.grove_base.proofs.Lists.{get_map_inv, map_length, item_there}
 use Rattle.grove_access.specs.ListFaults.{AreLengths}
 use Rattle.grove_access.specs.declared.access.Access.{Access}
 use Rattle.grove_access.specs.Lists.{nodes_of}
@@ -17,8 +18,7 @@ use Rattle.grove_access.proofs.Slots.{slots_few, slots_rise}
 use Rattle.grove_access.proofs.ForcedByTree.{forced_within}
 use Rattle.grove_proof.specs.declared.flow.FlowRow.{FlowRow}
 use Rattle.grove_span.specs.declared.row.SpanRow.{SpanRow}
-use Rattle.grove_flow.specs.declared.network.Arc.{Arc}
-use Rattle.grove_flow.specs.Networks.{no_arc, arc_at, place, IsModest, IsArcOf, HasOwnArcs, IsNetwork, IsStart, IsLatest}
+use Rattle.grove_flow.specs.Networks.{no_arc, place, IsModest, IsArcOf, HasOwnArcs, IsNetwork, IsStart, IsLatest}
 use Rattle.grove_flow.specs.Networks.{IsCandidate, AreArcsOf}
 use Rattle.grove_flow.specs.Flows.{IsSolution}
 use Rattle.grove_build.specs.declared.kinds.Kind.{Kind}
@@ -34,11 +34,7 @@ use Rattle.grove_build.proofs.Candidates.{row_on, on_low, cut_candidate, other_c
 use Rattle.grove_build.proofs.Latest.{latest_on}
 use Rattle.grove_build.proofs.Needs.{need_lock, need_release, needs_size}
 use Rattle.grove_build.proofs.Settles.{rows_few}
-
-pub get_within : {A : Type 0} (xs : List A) (k : ℕ) → k < length xs → (x : A) × (slice_get xs k ≡ Some x)
-get_within [] k lt = absurd (omega arith)
-get_within (x ∷ xs) zero lt = (x, refl)
-get_within (x ∷ xs) (suc k) lt = get_within xs k (omega arith)
+use Rattle.grove_access.proofs.Lists.{nodes_length}
 
 modest_pos : (l : ℕ) → l ≤ 64000 → IsModest (pos l)
 modest_pos l le = (omega (arith, ints), omega (arith, ints))
@@ -49,36 +45,25 @@ modest_neg f le = (omega (arith, ints), omega (arith, ints))
 -- an arc of a row is between variables of the network
 arc_within : (n k : ℕ) (row : SpanRow) (kind : Kind) (x : ℕ) → k < n → ((j : ℕ) → row.parent ≡ Some j → j < n) → x ≤ 64000
     → bound row kind ≡ Some x → IsArcOf (2 * n + 1) (arc_to (2 * n) k kind x)
-arc_within n k row Above x lt own few e =
-    let less : x < n = own x e in record { from = omega arith; to = omega arith; modest = modest_pos 0 (omega arith) }
-arc_within n k row Held x lt own few e =
-    let less : x < n = own x e in record { from = omega arith; to = omega arith; modest = modest_pos 0 (omega arith) }
+arc_within n k row Above x lt own few e = grind (arith, modest_pos)
+arc_within n k row Held x lt own few e = grind (arith, modest_pos)
 arc_within n k row First x lt own few e = record { from = omega arith; to = omega arith; modest = modest_neg x few }
 arc_within n k row Last x lt own few e = record { from = omega arith; to = omega arith; modest = modest_pos x few }
 arc_within n k row Own x lt own few e = record { from = omega arith; to = omega arith; modest = modest_pos 0 (omega arith) }
 
 own_arcs : (base : ℕ) (rows : List SpanRow) → HasOwnArcs (length rows) (arcs_from base 0 rows)
 own_arcs base rows k lt =
-    let r = get_within rows k lt in
+    let r = item_there rows k lt in
     let h : Has (arcs_from base 0 rows) (arc_to base k Own 0) = arcs_have base k rows r.0 Own 0 r.1 refl in
-    let at : arc_at (arcs_from base 0 rows) h.0 ≡ arc_to base k Own 0 =
-    get_or_from_slice_get (arcs_from base 0 rows) h.0 (arc_to base k Own 0) no_arc h.1 in (
-      h.0,
-      slice_get_within (arcs_from base 0 rows) h.0 (arc_to base k Own 0) h.1,
-      ap (λ (a : Arc). a.from) at,
-      ap (λ (a : Arc). a.to) at,
-    )
+    grind (arith, get_or_from_slice_get, slice_get_within)
 
 need_base : (tree : Rows) (rows : List SpanRow) → place (needs_of tree rows) (2 * length rows) ≡ pos 0
-need_base tree rows =
-    ap (λ n. place (needs_of tree rows) (2 * n)) (sym (map_length (λ (row : SpanRow). weight_of tree row.node) rows))
-    ∙ pairs_base (λ weight. neg_ℤ (pos weight)) (λ weight. pos weight) (weights_of tree rows)
+need_base tree rows = grind (arith, map_length, pairs_base)
 
 weight_parts : (w : ℕ) (z y : ℤ) → 1 ≤ w → w ≤ 1000 → z ≡ neg_ℤ (pos w) → y ≡ pos w → (v : ℕ) × (v < 1000)
     × (z ≡ negsuc v) × (y ≡ pos (v + 1))
 weight_parts zero z y low high e f = absurd (omega arith)
-weight_parts (suc w) z y low high e f = let s : suc w ≡ w + 1 = omega arith in
-    (w, omega arith, e, f ∙ ap (λ n. pos n) s)
+weight_parts (suc w) z y low high e f = grind (arith)
 
 module _ (tree : Rows) (nodes lengths : List ℕ) (rows : List SpanRow) (is_span : IsSpan tree nodes lengths rows)
     (limits : IsWithinLimits tree) (short : length nodes ≤ 64) where
@@ -108,10 +93,7 @@ module _ (tree : Rows) (nodes lengths : List ℕ) (rows : List SpanRow) (is_span
           let p = parent_known tree nodes lengths rows is_span i j row h e in slice_get_within rows j p.0 p.1
 
       parent_few : (i j : ℕ) (row : SpanRow) → slice_get rows i ≡ Some row → row.parent ≡ Some j → j ≤ 64000
-      parent_few i j row h e =
-          let a : j < length rows = own_parents i j row h e in
-          let b : length rows ≤ length tree = few in
-          let c : length tree ≤ 4096 = limits.few in omega arith
+      parent_few i j row h e = omega (arith, own_parents i j row h e, few, limits.few)
 
       slots_low : (x : ℕ) → ((i : ℕ) × (i ≤ m) × (slots_before lengths i ≡ x)) → x ≤ 64000
       slots_low x on =
@@ -129,7 +111,7 @@ module _ (tree : Rows) (nodes lengths : List ℕ) (rows : List SpanRow) (is_span
     rows = length rows;
     size = needs_size tree rows;
     weights = λ k lt.
-        let r = get_within rows k lt in
+        let r = item_there rows k lt in
         weight_parts (weight_of tree (r.0).node) (place (needs_of tree rows) (2 * k))
         (place (needs_of tree rows) (2 * k + 1))
         (limits.weighty (r.0).node (rows_of_span.nodes k r.0 r.1)) (limits.light (r.0).node)
@@ -145,27 +127,14 @@ module _ (tree : Rows) (nodes lengths : List ℕ) (rows : List SpanRow) (is_span
   }
 
   start_fits : Fits tree nodes (λ v. 0) (λ v. length nodes)
-  start_fits = record {
-    above = λ v p sv sp up. omega arith;
-    held = λ v p sv sp up. omega arith;
-    first = λ v a h. omega arith;
-    last = λ v a h. slice_get_within nodes a v h;
-    own = λ v sv. omega arith;
-    top = λ v sv. omega arith;
-  }
+  start_fits = grind (arith, slice_get_within)
 
   -- a flow that sends nothing is tight anywhere
   nothing_at : (i : ℕ) (f : FlowRow) → slice_get (map nothing_sent rows) i ≡ Some f → (row : SpanRow) × (nothing_sent row ≡ f)
   nothing_at i f h = let r = get_map_inv nothing_sent rows i f h in (r.0, r.2)
 
   start_tight : AreTight tree nodes (map nothing_sent rows) (λ v. 0) (λ v. length nodes)
-  start_tight = record {
-    above = λ i j f g a b child some. let e = ap (λ (x : FlowRow). x.above) (nothing_at i f a).1 in absurd (omega arith);
-    held = λ i j f g a b child some. let e = ap (λ (x : FlowRow). x.held) (nothing_at i f a).1 in absurd (omega arith);
-    first = λ i f a some_access some. let e = ap (λ (x : FlowRow). x.first) (nothing_at i f a).1 in absurd (omega arith);
-    last = λ i f a some_access some. let e = ap (λ (x : FlowRow). x.last) (nothing_at i f a).1 in absurd (omega arith);
-    own = λ i f a some. let e = ap (λ (x : FlowRow). x.own) (nothing_at i f a).1 in absurd (omega arith);
-  }
+  start_tight = grind (arith, nothing_at)
 
   pub is_start : IsStart (needs_of tree rows) (arcs_from (2 * length rows) 0 rows) (start_of (slots_before lengths (length nodes)) rows)
   is_start =
@@ -200,24 +169,16 @@ module _ (tree : Rows) (nodes lengths : List ℕ) (rows : List SpanRow) (is_span
       → (v : ℕ) → IsBetween slots (place places v)
   latest_between slots amounts places are_slots latest v =
       let on = latest_on tree nodes lengths rows is_span amounts places latest v in
-      let within : on.0 ≤ m = on.1 in
-      let size : length slots ≡ suc m = are_slots.size in
-      (on.0, record { within = omega arith; at = ap (λ (n : ℕ). pos n) (are_slots.each on.0 on.1) ∙ sym on.2 })
+      grind (arith)
 
 -- the slots before the gaps rise
 pub slots_rising : (lengths slots : List ℕ) (m : ℕ) → AreSlots lengths m slots → AreRising slots
-slots_rising lengths slots m are i j le lt =
-    let size : length slots ≡ suc m = are.size in
-    omega (arith, slots_rise lengths i j le, are.each i (omega arith), are.each j (omega arith))
+slots_rising lengths slots m are i j le lt = grind (arith, slots_rise)
 
 -- no gap has more slots before it than 64 accesses can take
 pub slots_few_each : (lengths slots : List ℕ) (m : ℕ) → AreLengths lengths → AreSlots lengths m slots → m ≤ 64 → (gap : ℕ)
     → slice_index slots gap ≤ 64000
-slots_few_each lengths slots m are_lengths are short gap = elim (cases_lt gap (length slots)) [
-  | inl lt ↦ let size : length slots ≡ suc m = are.size in
-      let few : slots_before lengths gap ≤ 1000 * gap = slots_few lengths gap are_lengths in omega (arith, are.each gap (omega arith))
-  | inr past ↦ let none : slice_index slots gap ≡ 0 = get_or_past slots gap 0 past in omega arith
-]
+slots_few_each lengths slots m are_lengths are short gap = grind (arith, cases_lt, get_or_past, slots_few)
 
 -- no weight is above 1000
 pub weights_few : (tree : Rows) (rows : List SpanRow) → IsWithinLimits tree → (k : ℕ) → slice_index (weights_of tree rows) k ≤ 1000
@@ -227,10 +188,7 @@ weights_few tree (row ∷ rows) limits (suc k) = weights_few tree rows limits k
 
 -- the last are those before the end
 pub end_slots : (lengths slots : List ℕ) (m : ℕ) → AreSlots lengths m slots → slice_index slots (length slots - 1) ≡ slots_before lengths m
-end_slots lengths slots m are =
-    let size : length slots ≡ suc m = are.size in
-    let last : length slots - 1 ≡ m = omega arith in
-    ap (slice_index slots) last ∙ are.each m (omega arith)
+end_slots lengths slots m are = grind (arith)
 
 -- gaps found among the slots
 pub gaps_are : (lengths slots gaps : List ℕ) (m : ℕ) (places : List ℤ) → AreSlots lengths m slots → length gaps ≡ length places
@@ -243,11 +201,6 @@ gaps_are lengths slots gaps m places are size each = record {
   where
     within : (v : ℕ) → v < length places → slice_index gaps v ≤ m
     within v lt = let long : length slots ≡ suc m = are.size in let in_slots : slice_index gaps v < length slots = (each v lt).within in omega arith
-
--- the nodes of a list are as many as its accesses
-pub nodes_length : (list : List Access) → length (nodes_of list) ≡ length list
-nodes_length [] = refl
-nodes_length (a ∷ list) = ap suc (nodes_length list)
 
 -- so they are few
 pub nodes_few : (list : List Access) → length list ≤ 64 → length (nodes_of list) ≤ 64

@@ -22,8 +22,7 @@ AllZip-next R xs ys i x y lt is all one =
 pub next_mapped : {A : Type 0} (f : A → ℕ) (items : List A) (wanted : List ℕ) (i : ℕ) (item : A) → slice_get wanted i ≡ Some (f item) → map f items ≡ take i wanted
     → map f (items ++ item ∷ []) ≡ take (i + 1) wanted
 next_mapped f items wanted i item at so_far =
-    map-append f items (item ∷ [])
-    ∙ ap (λ front. front ++ f item ∷ []) so_far
+    map-append f items (item ∷ []) ∙ ap (λ front. front ++ f item ∷ []) so_far
     ∙ ap (λ (n : ℕ). take i wanted ++ n ∷ []) (sym (get_or_from_slice_get wanted i (f item) 0 at))
     ∙ sym (take_more wanted i 0 (slice_get_within wanted i (f item) at))
 

@@ -1,5 +1,6 @@
 -- Places that are cut, and numbers that fit and are tight, are lawful places of the network.
-use Rattle.std.proofs.Common.{◌≡◌, ℕ, zero, suc, ◌+◌, ◌-◌, ◌*◌, ◌<◌, ◌≤◌, true, List, [], ◌∷◌, map, length, Some, ℤ, pos, ◌≤ℤ◌, refl, sym, ◌∙◌, ap, subst, arith}
+use Rattle.std.proofs.Common.{◌≡◌, ℕ, zero, suc, ◌+◌, ◌-◌, ◌*◌, ◌<◌, ◌≤◌, true, List, [], ◌∷◌, map, length, Some, ℤ}
+use Rattle.std.proofs.Common.{pos, ◌≤ℤ◌, refl, sym, ◌∙◌, ap, arith}
 use Rattle.std.specs.Prelude.{slice_index}
 use Rattle.std.specs.List.{slice_get}
 use Rattle.std.proofs.lemmas.Int.{ints}
@@ -10,7 +11,7 @@ use Rattle.grove_base.proofs.Lists.{map_length}
 use Rattle.grove_tree.proofs.Tests.{is_at_true, is_at_from}
 use Rattle.grove_access.specs.Slots.{slots_before}
 use Rattle.grove_access.proofs.Slots.{slots_rise}
-use Rattle.grove_access.specs.Forced.{names_at, is_accessed, first_access, last_end}
+use Rattle.grove_access.specs.Forced.{is_accessed, first_access, last_end}
 use Rattle.grove_proof.specs.declared.flow.FlowRow.{FlowRow}
 use Rattle.grove_proof.specs.Flows.{is_child}
 use Rattle.grove_span.specs.declared.row.SpanRow.{SpanRow}
@@ -40,10 +41,7 @@ nothing_low z n e = omega (arith, ints)
 -- accesses as places
 slots_meet : (lengths : List ℕ) (amount a b : ℕ) (low high : ℤ) → low ≡ pos (slots_before lengths a) → high ≡ pos (slots_before lengths b)
     → a ≤ b → (0 < amount → a ≡ b) → Meets amount low high
-slots_meet lengths amount a b low high e f le same = record {
-  met = let rise : slots_before lengths a ≤ slots_before lengths b = slots_rise lengths a b le in omega (arith, ints);
-  tight = λ some. e ∙ (ap (λ n. pos (slots_before lengths n)) (same some) ∙ sym f);
-}
+slots_meet lengths amount a b low high e f le same = grind (arith, ints, slots_rise)
 
 module _ (tree : Rows) (nodes lengths : List ℕ) (rows : List SpanRow) (is_span : IsSpan tree nodes lengths rows) where
   abbrev pub m : ℕ
@@ -67,9 +65,7 @@ module _ (tree : Rows) (nodes lengths : List ℕ) (rows : List SpanRow) (is_span
   zero_on = (0, omega arith, refl)
 
   pub on_low : (x : ℕ) → IsOn x → x ≤ top
-  on_low x on =
-      let rise : slots_before lengths on.0 ≤ top = slots_rise lengths on.0 m on.1 in
-      let e : slots_before lengths on.0 ≡ x = on.2 in omega arith
+  on_low x on = omega (arith, slots_rise lengths on.0 m on.1, on.2)
 
   pub row_on : (i : ℕ) (row : SpanRow) → slice_get rows i ≡ Some row → IsRowOn IsOn row
   row_on i row h = record {
@@ -86,8 +82,7 @@ module _ (tree : Rows) (nodes lengths : List ℕ) (rows : List SpanRow) (is_span
 
   -- places that are cut are a candidate again
   pub cut_candidate : (amounts : List ℕ) (f : ℤ → ℤ) → ((a b : ℤ) → a ≤ℤ b → f a ≤ℤ f b) → ((a : ℕ) → IsOn a → f (pos a) ≡ pos a)
-      → (places : List ℤ)
-      → length places ≡ base + 1 → AreLawful arcs amounts places → place places base ≡ pos 0
+      → (places : List ℤ) → length places ≡ base + 1 → AreLawful arcs amounts places → place places base ≡ pos 0
       → ((v : ℕ) → v < base + 1 → f (place places v) ≤ℤ pos top)
       → IsCandidate (base + 1) arcs amounts (pos top) (map f places)
   cut_candidate amounts f rising keeps places size lawful zero_base low = record {
@@ -96,9 +91,7 @@ module _ (tree : Rows) (nodes lengths : List ℕ) (rows : List SpanRow) (is_span
         (λ k row kind x g b. arc_cut f IsOn rising keeps zero_on places base zero_base k row (row_on k row g) kind x b)
         i no_arc lt (slice_index amounts i) (lawful i lt);
     base = ap (λ v. place (map f places) v) base_is ∙ base_stays f IsOn rising keeps zero_on places base zero_base;
-    capped = λ v lt.
-        let P : ℤ → Type 0 = λ z. z ≤ℤ pos top in
-        subst P (sym (place_map f places v (keeps 0 zero_on))) (low v lt);
+    capped = grind (arith, place_map, zero_on);
   }
 
   -- numbers that fit and are tight are a candidate
@@ -122,20 +115,14 @@ module _ (tree : Rows) (nodes lengths : List ℕ) (rows : List SpanRow) (is_span
     release_is i row g = pairs_release lock_at release_at rows i row g
 
     first_fits : (v : ℕ) → is_accessed nodes v ≡ true → lock2 v ≤ first_access nodes v
-    first_fits v some =
-        let l = least_is (length nodes) (names_at nodes v) some in
-        fits.first v (first_access nodes v) (is_at_true v (slice_get nodes (first_access nodes v)) l.1)
+    first_fits v some = grind (arith, is_at_true, least_is)
 
     last_fits : (v : ℕ) → is_accessed nodes v ≡ true → last_end nodes v ≤ release2 v
-    last_fits v some =
-        let l = last_is (length nodes) (names_at nodes v) some in
-        let P : ℕ → Type 0 = λ n. n ≤ release2 v in
-        subst P (sym l.1) (fits.last v l.0 (is_at_true v (slice_get nodes l.0) l.3))
+    last_fits v some = grind (arith, is_at_true, last_is)
 
     is_parent : (f : FlowRow) (row : SpanRow) (g : FlowRow) (over : SpanRow) → f.node ≡ row.node → g.node ≡ over.node
         → parent_of tree row.node ≡ Some over.node → is_child tree f g ≡ true
-    is_parent f row g over same same2 up =
-        is_at_from g.node (parent_of tree f.node) (ap (λ n. parent_of tree n) same ∙ (up ∙ ap (λ (n : ℕ). Some n) (sym same2)))
+    is_parent f row g over same same2 up = grind (arith, is_at_from)
 
     other_meets : (i : ℕ) (row : SpanRow) (f : FlowRow) (kind : Kind) (x : ℕ) → slice_get rows i ≡ Some row
         → slice_get flow i ≡ Some f → f.node ≡ row.node → bound row kind ≡ Some x
@@ -184,10 +171,5 @@ module _ (tree : Rows) (nodes lengths : List ℕ) (rows : List SpanRow) (is_span
           (other_meets i row f kind x g1 g2 ((r.2).node ∙ ap (λ (s : SpanRow). s.node) (same_Some r.0 row (sym r.1 ∙ g1))) b));
       base = ap (λ v. place other v) base_is ∙ pairs_base lock_at release_at rows;
       capped = λ v lt. pairs_each lock_at release_at (λ z. z ≤ℤ pos top) (pos_up 0 top (omega arith)) rows (λ k row g.
-          let s = row_spanned tree nodes lengths rows is_span k row g in
-          let a : lock2 row.node ≤ release2 row.node = fits.own row.node s in
-          let b : release2 row.node ≤ m = fits.top row.node s in (
-            pos_up (slots_before lengths (lock2 row.node)) top (slots_rise lengths (lock2 row.node) m (omega arith)),
-            pos_up (slots_before lengths (release2 row.node)) top (slots_rise lengths (release2 row.node) m b),
-          )) v;
+          grind (arith, pos_up, row_spanned, slots_rise)) v;
     }

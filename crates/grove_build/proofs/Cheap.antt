@@ -1,5 +1,6 @@
 -- A legal plan that costs no more than the bound is tight along the flow.
-use Rattle.std.proofs.Common.{◌≡◌, ℕ, zero, suc, true, ◌+◌, ◌*◌, ◌<◌, ◌≤◌, List, [], ◌∷◌, Some, refl, sym, ◌∙◌, subst, inl, inr, arith, mul-le-mul_left, mul-suc}
+use Rattle.std.proofs.Common.{◌≡◌, ℕ, zero, suc, true, ◌+◌, ◌*◌, ◌<◌, ◌≤◌, List, [], ◌∷◌, Some, refl, sym, ◌∙◌}
+use Rattle.std.proofs.Common.{arith, mul-le-mul_left, mul-suc}
 use Rattle.std.specs.List.{slice_get, sum_by}
 use Rattle.std.proofs.lemmas.Option.{none-some, same_Some}
 use Rattle.std.proofs.lemmas.Bool.{cases_order}
@@ -21,37 +22,25 @@ use Rattle.grove_proof.proofs.WeakDuality.{above_term, held_term, first_term, la
 
 -- where each term is at most another and the sums are the other way round, the terms are the same
 sum_tight : {X : Type 0} (f g : X → ℕ) (xs : List X) → ((i : ℕ) (x : X) → slice_get xs i ≡ Some x → f x ≤ g x)
-    → sum_by g xs ≤ sum_by f xs
-    → (i : ℕ) (x : X) → slice_get xs i ≡ Some x → f x ≡ g x
+    → sum_by g xs ≤ sum_by f xs → (i : ℕ) (x : X) → slice_get xs i ≡ Some x → f x ≡ g x
 sum_tight f g [] le less i x h = absurd (none-some x h)
 sum_tight {X} f g (y ∷ xs) le less zero x h =
     let here : f y ≤ g y = le 0 y refl in
     let there : sum_by f xs ≤ sum_by g xs = sums_le f g xs (λ i z k. le (suc i) z k) in
-    let e : f y ≡ g y = omega (arith, sum_by-cons f y xs, sum_by-cons g y xs) in
-    let P : X → Type 0 = λ z. f z ≡ g z in
-    subst P (same_Some y x h) e
+    grind (arith, same_Some, sum_by-cons)
 sum_tight f g (y ∷ xs) le less (suc i) x h =
     let here : f y ≤ g y = le 0 y refl in
     sum_tight f g xs (λ j z k. le (suc j) z k) (omega (arith, sum_by-cons f y xs, sum_by-cons g y xs)) i x h
 
 -- what is priced the same by a positive amount is the same
 cancel_less : (a x y : ℕ) → 0 < a → a * x ≡ a * y → x < y → ⊥
-cancel_less a x y some e lt =
-    let le : a * suc x ≤ a * y = mul-le-mul_left a lt in
-    let more : a * suc x ≡ a * x + a = times a x in
-    omega arith
+cancel_less a x y some e lt = omega (arith, mul-le-mul_left a lt, times a x)
   where
     times : (a x : ℕ) → a * suc x ≡ a * x + a
     times a x = omega (arith, mul-suc a x)
 
 cancel : (a x y : ℕ) → 0 < a → a * x ≡ a * y → x ≡ y
-cancel a x y some e = elim (cases_order x y) [
-  | inl same ↦ same
-  | inr o ↦ elim o [
-    | inl lt ↦ absurd (cancel_less a x y some e lt)
-    | inr gt ↦ absurd (cancel_less a y x some (sym e) gt)
-  ]
-]
+cancel a x y some e = grind (arith, cancel_less, cases_order)
 
 -- The times of a plan's locks and releases are tight where the rows of a flow have an amount.
 pub record AreTightInTime (rows : Rows) (nodes lengths : List ℕ) (flow : List FlowRow) (plan : List Step) : Type 0 where

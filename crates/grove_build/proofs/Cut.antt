@@ -1,6 +1,8 @@
 -- What an arc asks of the places, and that it stays lawful where a rising function that keeps the slots between accesses
 -- is put on each place.
-use Rattle.std.proofs.Common.{◌≡◌, ℕ, zero, suc, ◌+◌, ◌*◌, ◌<◌, ◌≤◌, ◌⊎◌, true, false, List, [], ◌∷◌, map, Some, ℤ, pos, neg_ℤ, ◌+ℤ◌, ◌≤ℤ◌, ◌<ℤ◌, int_lt, int_le, if◌then◌else◌, refl, sym, ◌∙◌, ap, subst, inl, inr, arith}
+use Rattle.std.proofs.Common.{◌≡◌, ℕ, zero, suc, ◌+◌, ◌*◌, ◌<◌, ◌≤◌, ◌⊎◌, true, false, List, [], ◌∷◌, map, Some, ℤ, pos}
+use Rattle.std.proofs.Common.{neg_ℤ, ◌+ℤ◌, ◌≤ℤ◌, ◌<ℤ◌, int_lt, int_le, if◌then◌else◌, refl, sym, ◌∙◌, ap, inl, inr}
+use Rattle.std.proofs.Common.{arith}
 use Rattle.std.proofs.lemmas.Int.{ints}
 use Rattle.std.proofs.lemmas.Bool.{cases_Bool, cases_order, cond-true, cond-false}
 use Rattle.grove_span.specs.declared.row.SpanRow.{SpanRow}
@@ -63,16 +65,10 @@ same_back a b low high e h = omega (arith, ints)
 
 module _ (base k : ℕ) (places : List ℤ) (zero_base : place places base ≡ pos 0) (kind : Kind) (x amount : ℕ) where
   pub lawful_meets : IsLawful (arc_to base k kind x) amount places → Meets amount (early places k kind x) (late places k kind x)
-  lawful_meets h = record {
-    met = le_across _ _ _ _ (same_difference base k places zero_base kind x) h.met;
-    tight = λ some. same_across _ _ _ _ (same_difference base k places zero_base kind x) (h.tight some);
-  }
+  lawful_meets h = grind (arith, le_across, same_across, same_difference)
 
   pub meets_lawful : Meets amount (early places k kind x) (late places k kind x) → IsLawful (arc_to base k kind x) amount places
-  meets_lawful h = record {
-    met = le_back _ _ _ _ (same_difference base k places zero_base kind x) h.met;
-    tight = λ some. same_back _ _ _ _ (same_difference base k places zero_base kind x) (h.tight some);
-  }
+  meets_lawful h = grind (arith, le_back, same_back, same_difference)
 
 -- the slots that bound a row are among some
 pub record IsRowOn (on : ℕ → Type 0) (row : SpanRow) : Type 0 where
@@ -117,8 +113,7 @@ module _ (f : ℤ → ℤ) (on : ℕ → Type 0) (rising : (a b : ℤ) → a ≤
         let low = early_cut k row row_on kind x e in
         let high = late_cut k row row_on kind x e in
         meets_lawful base k (map f places) base_stays kind x amount record {
-          met = subst (λ z. z ≤ℤ late (map f places) k kind x) low (subst (λ z. f (early places k kind x) ≤ℤ z) high
-              (rising (early places k kind x) (late places k kind x) m.met));
+          met = grind (arith);
           tight = λ some. sym low ∙ (ap f (m.tight some) ∙ high);
         }
 
@@ -131,10 +126,7 @@ raised slots (suc i) z = if int_le z (pos (slots i)) then raised slots i z else 
 
 raise_case : (slots : ℕ → ℕ) (i : ℕ) (z : ℤ) → ((z ≤ℤ pos (slots i)) × (raised slots (suc i) z ≡ raised slots i z))
     ⊎ ((pos (slots i) <ℤ z) × (raised slots (suc i) z ≡ pos (slots (suc i))))
-raise_case slots i z = elim (cases_Bool (int_le z (pos (slots i)))) [
-  | inl e ↦ inl (grind (arith, ints), cond-true (int_le z (pos (slots i))) (raised slots i z) (pos (slots (suc i))) e)
-  | inr e ↦ inr (grind (arith, ints), cond-false (int_le z (pos (slots i))) (raised slots i z) (pos (slots (suc i))) e)
-]
+raise_case slots i z = grind (arith, cases_Bool, cond-false, cond-true, ints)
 
 module _ (slots : ℕ → ℕ) (rise : (i : ℕ) → slots i ≤ slots (suc i)) where
   -- it is one of them
@@ -148,11 +140,7 @@ module _ (slots : ℕ → ℕ) (rise : (i : ℕ) → slots i ≤ slots (suc i)) 
   -- no greater than the last
   pub raised_most : (n : ℕ) (z : ℤ) → raised slots n z ≤ℤ pos (slots n)
   raised_most zero z = omega (arith, ints)
-  raised_most (suc n) z = elim (raise_case slots n z) [
-    | inl low ↦ let e = low.1 in let most : raised slots n z ≤ℤ pos (slots n) = raised_most n z in
-        let up : slots n ≤ slots (suc n) = rise n in omega (arith, ints)
-    | inr high ↦ let e = high.1 in omega (arith, ints)
-  ]
+  raised_most (suc n) z = grind (arith, ints, raise_case, raised_most n z)
 
   -- and no less than the place, where that isn't past the last
   pub raised_least : (n : ℕ) (z : ℤ) → z ≤ℤ pos (slots n) → z ≤ℤ raised slots n z
@@ -164,13 +152,7 @@ module _ (slots : ℕ → ℕ) (rise : (i : ℕ) → slots i ≤ slots (suc i)) 
 
   pub raised_rises : (n : ℕ) (a b : ℤ) → a ≤ℤ b → raised slots n a ≤ℤ raised slots n b
   raised_rises zero a b le = omega (arith, ints)
-  raised_rises (suc n) a b le = elim (raise_case slots n b) [
-    | inl low ↦ elim (raise_case slots n a) [
-      | inl too ↦ let e = low.1 in let f = too.1 in let up : raised slots n a ≤ℤ raised slots n b = raised_rises n a b le in omega (arith, ints)
-      | inr past ↦ let f = past.0 in let g = low.0 in absurd (omega (arith, ints))
-    ]
-    | inr high ↦ let e = high.1 in let most : raised slots (suc n) a ≤ℤ pos (slots (suc n)) = raised_most (suc n) a in omega (arith, ints)
-  ]
+  raised_rises (suc n) a b le = grind (arith, ints, raise_case, raised_most, raised_rises n a b le)
 
   -- slots stay where they are
   pub raised_keeps : (n i : ℕ) → i ≤ n → raised slots n (pos (slots i)) ≡ pos (slots i)
@@ -178,11 +160,8 @@ module _ (slots : ℕ → ℕ) (rise : (i : ℕ) → slots i ≤ slots (suc i)) 
   raised_keeps (suc n) i le = elim (raise_case slots n (pos (slots i))) [
     | inl low ↦ elim (cases_order i (suc n)) [
       | inl e ↦
-          let most : raised slots n (pos (slots i)) ≤ℤ pos (slots n) = raised_most n (pos (slots i)) in
-          let least : pos (slots i) ≤ℤ raised slots n (pos (slots i)) = raised_least n (pos (slots i)) low.0 in
-          let up : slots n ≤ slots (suc n) = rise n in
-          let same : slots i ≡ slots (suc n) = ap slots e in
-          let f = low.1 in omega (arith, ints)
+          let f = low.1 in
+          omega (arith, ints, raised_most n (pos (slots i)), raised_least n (pos (slots i)) low.0, rise n, ap slots e)
       | inr ne ↦ elim ne [
         | inl lt ↦ low.1 ∙ raised_keeps n i (omega arith)
         | inr gt ↦ absurd (omega arith)
@@ -209,43 +188,19 @@ module _ (slots : ℕ → ℕ) (rise : (i : ℕ) → slots i ≤ slots (suc i)) 
 
 lower_case : (top : ℕ) (z : ℤ) → ((int_lt (pos top) z ≡ true) × (pos (suc top) ≤ℤ z)
     × (lowered (pos top) z ≡ pos top)) ⊎ ((int_lt (pos top) z ≡ false) × (z ≤ℤ pos top) × (lowered (pos top) z ≡ z))
-lower_case top z = elim (cases_Bool (int_lt (pos top) z)) [
-  | inl e ↦ inl (e, grind (arith, ints), cond-true (int_lt (pos top) z) (pos top) z e)
-  | inr e ↦ inr (e, grind (arith, ints), cond-false (int_lt (pos top) z) (pos top) z e)
-]
+lower_case top z = grind (arith, cases_Bool, cond-false, cond-true, ints)
 
 pub lowered_rises : (top : ℕ) (a b : ℤ) → a ≤ℤ b → lowered (pos top) a ≤ℤ lowered (pos top) b
-lowered_rises top a b h = elim (lower_case top a) [
-  | inl x ↦ elim (lower_case top b) [
-    | inl y ↦ let e = x.2 in let f = y.2 in omega (arith, ints)
-    | inr y ↦ let e = x.1 in let f = y.1 in absurd (omega (arith, ints))
-  ]
-  | inr x ↦ elim (lower_case top b) [
-    | inl y ↦ let e = x.2 in let f = y.2 in let g = x.1 in omega (arith, ints)
-    | inr y ↦ let e = x.2 in let f = y.2 in omega (arith, ints)
-  ]
-]
+lowered_rises top a b h = grind (arith, ints, lower_case)
 
 pub lowered_keeps : (top a : ℕ) → a ≤ top → lowered (pos top) (pos a) ≡ pos a
-lowered_keeps top a le = elim (lower_case top (pos a)) [
-  | inl x ↦ let e = x.1 in absurd (omega (arith, ints))
-  | inr x ↦ x.2
-]
+lowered_keeps top a le = grind (arith, ints, lower_case)
 
 pub lowered_most : (top : ℕ) (z : ℤ) → lowered (pos top) z ≤ℤ pos top
-lowered_most top z = elim (lower_case top z) [
-  | inl x ↦ let e = x.2 in omega (arith, ints)
-  | inr x ↦ let e = x.2 in let f = x.1 in omega (arith, ints)
-]
+lowered_most top z = grind (arith, ints, lower_case)
 
 pub lowered_more : (top : ℕ) (z : ℤ) → pos top <ℤ z → lowered (pos top) z ≡ pos top
-lowered_more top z h = elim (lower_case top z) [
-  | inl x ↦ x.2
-  | inr x ↦ let e = x.1 in absurd (omega (arith, ints))
-]
+lowered_more top z h = grind (arith, ints, lower_case)
 
 pub lowered_less : (top : ℕ) (z : ℤ) → z ≤ℤ pos top → lowered (pos top) z ≡ z
-lowered_less top z h = elim (lower_case top z) [
-  | inl x ↦ let e = x.1 in absurd (omega (arith, ints))
-  | inr x ↦ x.2
-]
+lowered_less top z h = grind (arith, ints, lower_case)

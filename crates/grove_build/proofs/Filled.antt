@@ -1,6 +1,6 @@
 -- A batch for each of whose lists something is kept, and the copies of it.
 use Rattle.std.proofs.Common.{◌≡◌, ◌⊎◌, inl, inr, ◌≤◌, List, Some, Result, Ok, Err, OnOk, sym, ◌∙◌, ap, arith, Bor}
-use Rattle.std.specs.List.{slice_get, AllZip}
+use Rattle.std.specs.List.{AllZip}
 use Rattle.std.specs.Prelude.{All}
 use Rattle.std.proofs.lemmas.List.Elements.{All-weaker}
 use Rattle.std.proofs.lemmas.Option.{same_Some}
@@ -29,23 +29,19 @@ all_kept (Ok value) before after lists parts missing stay kept =
 
 -- the copies are planned for the lists
 pub copies_planned : (rows : Rows) (plans : List Kept) (lists : List (List Access)) (copies : List Planned)
-    → AreSettledFor rows plans
-    → AllZip (IsCopyFor plans) lists copies → AllZip (IsPlanned rows) lists copies
+    → AreSettledFor rows plans → AllZip (IsCopyFor plans) lists copies → AllZip (IsPlanned rows) lists copies
 copies_planned rows plans lists copies settled =
     AllZip-weaker (IsCopyFor plans) (IsPlanned rows)
     (λ list copy is. planned_at_place rows plans list is.0 copy settled is.1.stands is.2) lists copies
 
 -- lists with the same targets have the same first place
 same_copy : (plans : List Kept) (list twin : List Access) (copy second : Planned) → HaveSameTargets list twin
-    → IsCopyFor plans list copy → IsCopyFor plans twin second
-    → copy ≡ second
+    → IsCopyFor plans list copy → IsCopyFor plans twin second → copy ≡ second
 same_copy plans list twin copy second same (place, own, (kept, at, is)) (other, own2, (kept2, at2, is2)) =
     let back : HaveSameTargets twin list = record { nodes = sym same.nodes; lengths = sym same.lengths } in
     let up : place ≤ other = own.first other (kept_same plans twin list other back own2.stands) in
     let down : other ≤ place = own2.first place (kept_same plans list twin place same own.stands) in
-    let one : place ≡ other = omega arith in
-    let alike : kept ≡ kept2 = same_Some kept kept2 (sym at ∙ ap (slice_get plans) one ∙ at2) in
-    sym is ∙ ap (λ (k : Kept). k.planned) alike ∙ is2
+    grind (arith, same_Some)
 
 pub copies_alike : (plans : List Kept) (lists : List (List Access)) (copies : List Planned)
     → AllZip (IsCopyFor plans) lists copies → ArePlannedAlike lists copies

@@ -20,11 +20,9 @@ pub record Fits (rows : Rows) (nodes : List ℕ) (lock release : ℕ → ℕ) : 
 -- They are tight where the rows of a flow have an amount.
 pub record AreTight (rows : Rows) (nodes : List ℕ) (flow : List FlowRow) (lock release : ℕ → ℕ) : Type 0 where
   pub above : (i j : ℕ) (row parent : FlowRow) → slice_get flow i ≡ Some row → slice_get flow j ≡ Some parent
-      → is_child rows row parent ≡ true → 0 < row.above
-      → lock parent.node ≡ lock row.node
+      → is_child rows row parent ≡ true → 0 < row.above → lock parent.node ≡ lock row.node
   pub held : (i j : ℕ) (row parent : FlowRow) → slice_get flow i ≡ Some row → slice_get flow j ≡ Some parent
-      → is_child rows row parent ≡ true → 0 < row.held
-      → lock row.node ≡ release parent.node
+      → is_child rows row parent ≡ true → 0 < row.held → lock row.node ≡ release parent.node
   pub first : (i : ℕ) (row : FlowRow) → slice_get flow i ≡ Some row → is_accessed nodes row.node ≡ true
       → 0 < row.first → lock row.node ≡ first_access nodes row.node
   pub last : (i : ℕ) (row : FlowRow) → slice_get flow i ≡ Some row → is_accessed nodes row.node ≡ true → 0 < row.last

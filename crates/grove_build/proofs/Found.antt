@@ -20,11 +20,7 @@ use Rattle.grove_base.specs.Numbers.{last_below}
 last_above : (n : ℕ) (test : ℕ → Bool) (k : ℕ) → k < n → test k ≡ true → suc k ≤ last_below n test
 last_above n test k lt h =
     let found : (g : ℕ) × (last_below n test ≡ suc g) × (g < n) × (test g ≡ true) × ((j : ℕ) → g < j → j < n → test j ≡ false) = last_is n test (any_from n test k lt h) in
-    let e : last_below n test ≡ suc found.0 = found.1 in
-    elim (cases_lt found.0 k) [
-      | inl more ↦ absurd (both_ways (test k) (found.4 k more lt) h)
-      | inr less ↦ omega arith
-    ]
+    grind (arith, both_ways, cases_lt)
 
 -- finding a place
 
@@ -35,9 +31,7 @@ place_step true x v zero xs o same there e = ap (λ (n : ℕ). Some n) (same ref
 place_step true x v (suc j) xs o same there e = absurd (omega (arith, same_Some 0 (suc j) e))
 place_step false x v j xs None same there e = absurd (none-some j e)
 place_step false x v zero xs (Some i) same there e = absurd (omega (arith, same_Some (suc i) 0 e))
-place_step false x v (suc j) xs (Some i) same there e =
-    let f : i ≡ j = let g : suc i ≡ suc j = same_Some (suc i) (suc j) e in omega arith in
-    there j (ap (λ (n : ℕ). Some n) f)
+place_step false x v (suc j) xs (Some i) same there e = grind (arith, same_Some)
 
 pub place_found : (v : ℕ) (xs : List ℕ) (j : ℕ) → find_place v xs ≡ Some j → slice_get xs j ≡ Some v
 place_found v [] j e = absurd (none-some j e)
@@ -50,8 +44,7 @@ place_here false o h = let r = h refl in (suc r.0, ap (λ x. option_map suc x) r
 
 pub place_there : (v : ℕ) (xs : List ℕ) (i : ℕ) → slice_get xs i ≡ Some v → (j : ℕ) × (find_place v xs ≡ Some j)
 place_there v [] i h = absurd (none-some v h)
-place_there v (x ∷ xs) zero h =
-    place_here (eqb x v) (find_place v xs) (λ e. absurd (both_ways (eqb x v) e (eq-eqb x v (same_Some x v h))))
+place_there v (x ∷ xs) zero h = grind (arith, both_ways, eq-eqb, place_here, same_Some)
 place_there v (x ∷ xs) (suc i) h = place_here (eqb x v) (find_place v xs) (λ e. place_there v xs i h)
 
 -- a node's own accesses
@@ -73,19 +66,11 @@ first_is_least nodes v a h =
 
 pub first_known : (nodes lengths : List ℕ) (v x : ℕ) → from_of nodes lengths v ≡ Some x → (is_accessed nodes v ≡ true)
     × (slots_before lengths (first_access nodes v) ≡ x) × (first_access nodes v < length nodes)
-first_known nodes lengths v x e =
-    let c = cond_some (is_accessed nodes v) (slots_before lengths (first_access nodes v)) x e in
-    let l = least_is (length nodes) (names_at nodes v) c.0 in
-    (c.0, c.1, l.0)
+first_known nodes lengths v x e = grind (arith, cond_some, least_is)
 
 pub last_known : (nodes lengths : List ℕ) (v x : ℕ) → until_of nodes lengths v ≡ Some x → (is_accessed nodes v ≡ true)
     × (slots_before lengths (last_end nodes v) ≡ x) × (last_end nodes v ≤ length nodes)
-last_known nodes lengths v x e =
-    let c = cond_some (is_accessed nodes v) (slots_before lengths (last_end nodes v)) x e in
-    let l = last_is (length nodes) (names_at nodes v) c.0 in
-    let is : last_end nodes v ≡ suc l.0 = l.1 in
-    let lt : l.0 < length nodes = l.2 in
-    (c.0, c.1, omega arith)
+last_known nodes lengths v x e = grind (arith, cond_some, last_is)
 
 module _ (tree : Rows) (nodes lengths : List ℕ) (rows : List SpanRow) (is_span : IsSpan tree nodes lengths rows) where
   -- each spanned node has a row
@@ -93,15 +78,11 @@ module _ (tree : Rows) (nodes lengths : List ℕ) (rows : List SpanRow) (is_span
       × (row.node ≡ v)
   row_of_node v s =
       let l = forced_listed tree nodes v is_span.is_tree is_span.are_nodes s in
-      let P : List ℕ → Type 0 = λ xs. slice_get xs l.0 ≡ Some v in
-      let m = get_map_inv node_of_row rows l.0 v (subst P (sym is_span.named) l.1) in
-      (l.0, m.0, m.1, m.2)
+      grind (arith, get_map_inv)
 
   row_of_place : (j p : ℕ) → slice_get (forced_nodes tree nodes) j ≡ Some p → (row : SpanRow)
       × (slice_get rows j ≡ Some row) × (row.node ≡ p)
-  row_of_place j p h =
-      let P : List ℕ → Type 0 = λ xs. slice_get xs j ≡ Some p in
-      get_map_inv node_of_row rows j p (subst P (sym is_span.named) h)
+  row_of_place j p h = grind (arith, get_map_inv)
 
   -- and each row's node is spanned
   pub row_spanned : (k : ℕ) (row : SpanRow) → slice_get rows k ≡ Some row → IsForcedByTree tree nodes row.node

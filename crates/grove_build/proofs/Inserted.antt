@@ -20,8 +20,7 @@ module _ {K V T : Type 0} (targets : K → T) where
     -- what holds of each key and its value, and of the value with each key that has the key's targets, holds of each
     -- then
     pub each_inserted : (P : K → V → Type 0) → ((own : K) → targets own ≡ targets key → P own value)
-        → (entries : List (K × V)) → HoldsOfEach P entries
-        → HoldsOfEach P (insert_entry eq entries key value)
+        → (entries : List (K × V)) → HoldsOfEach P entries → HoldsOfEach P (insert_entry eq entries key value)
     each_inserted P new [] all zero entry at = subst (λ (e : K × V). P e.0 e.1) (same_Some _ _ at) (new key refl)
     each_inserted P new [] all (suc place) entry at = absurd (none-some entry at)
     each_inserted P new (first ∷ entries) all place entry at =

@@ -1,5 +1,5 @@
 -- What is kept in a map: where it stands, and what a pair more leaves of it.
-use Rattle.std.proofs.Common.{◌≡◌, ℕ, ◌<◌, ◌≤◌, ◌⊎◌, inl, inr, Bool, true, List, length, get_or, map, position}
+use Rattle.std.proofs.Common.{◌≡◌, ℕ, ◌<◌, ◌⊎◌, inl, inr, Bool, true, List, length, get_or, map, position}
 use Rattle.std.proofs.Common.{Option, Some, None, IfSome, IfNone, sym, ◌∙◌, ap, ap₂, subst, arith, true≢false}
 use Rattle.std.specs.List.{slice_get, position_or_len}
 use Rattle.std.specs.Map.{keys_of}
@@ -13,46 +13,33 @@ use Rattle.grove_base.proofs.Lists.{get_map, get_map_inv, map_length, item_there
 use Rattle.grove_tree.specs.Trees.{Rows}
 use Rattle.grove_access.specs.declared.access.Access.{Access}
 use Rattle.grove_access.specs.Lists.{nodes_of, lengths_of}
-use Rattle.grove_plan.specs.Plans.{IsLeast, cost}
-use Rattle.grove_proof.specs.Flows.{IsCertificate}
 use Rattle.grove_build.specs.declared.planning.Planned.{Planned}
 use Rattle.grove_build.specs.declared.targets.Target.{Target}
 use Rattle.grove_build.specs.Batches.{IsPlanned, HaveSameTargets}
 use Rattle.grove_build.specs.KeptPlans.{Kept, IsKeptFor, IsKeptAt, IsKeptIn, AreSettledFor}
 use Rattle.grove_build.specs.Keeping.{kept_of, AreTargetsOf, AddsAtMost, StayKept, IsFirstFor, HoldsAt}
-use Rattle.grove_build.specs.Settled.{IsSettled}
 use Rattle.grove_build.proofs.Inserted.{HasKey, each_inserted, key_stays, key_inserted}
 use Rattle.grove_build.proofs.TargetLists.{as_targets, Targets, targets_in, targets_from, targets_alike}
 
 -- what holds of a list's nodes and lengths holds of those of each list with its targets
 for_targets : (list other : List Access) → HaveSameTargets list other → (P : List ℕ → List ℕ → Type 0)
     → P (nodes_of list) (lengths_of list) → P (nodes_of other) (lengths_of other)
-for_targets list other same P holds =
-    subst (λ (lengths : List ℕ). P (nodes_of other) lengths) same.lengths
-    (subst (λ (nodes : List ℕ). P nodes (lengths_of list)) same.nodes holds)
+for_targets list other same P holds = grind (arith)
 
 -- what is planned for a list serves each list with its targets
 pub planned_same : (rows : Rows) (list other : List Access) (planned : Planned) → HaveSameTargets list other
     → IsPlanned rows list planned → IsPlanned rows other planned
-planned_same rows list other planned same is = record {
-  settled = for_targets list other same (λ nodes lengths. IsSettled rows nodes lengths planned.plan) is.settled;
-  least = for_targets list other same (λ nodes lengths. IsLeast rows nodes lengths planned.plan) is.least;
-  priced = for_targets list other same (λ nodes lengths. planned.cost ≡ cost rows lengths planned.plan) is.priced;
-  certificate = for_targets list other same
-      (λ nodes lengths. IsCertificate rows nodes lengths planned.flow (cost rows lengths planned.plan)) is.certificate;
-}
+planned_same rows list other planned same is = grind (arith, for_targets)
 
 -- and so does what is kept for it
 pub kept_same : (plans : List Kept) (list other : List Access) (place : ℕ) → HaveSameTargets list other
     → IsKeptAt plans list place → IsKeptAt plans other place
-kept_same plans list other place same (kept, at, for) =
-    (kept, at, record { nodes = for.nodes ∙ same.nodes; lengths = for.lengths ∙ same.lengths })
+kept_same plans list other place same (kept, at, for) = grind (arith)
 
 -- what was planned for a list is kept for each list with its targets
 pub kept_planned : (rows : Rows) (list : List Access) (targets : List Target) (planned : Planned) → AreTargetsOf list targets → IsPlanned rows list planned
     → (other : List Access) → IsKeptFor other (kept_of targets planned) → IsPlanned rows other planned
-kept_planned rows list targets planned own is other for =
-    planned_same rows list other planned record { nodes = sym own.nodes ∙ for.nodes; lengths = sym own.lengths ∙ for.lengths } is
+kept_planned rows list targets planned own is other for = grind (arith, planned_same)
 
 -- settled plans, with one more
 pub settled_added : (rows : Rows) (before after : List Kept) (new : Kept) → AreSettledFor rows before → AddsAtMost before new after
@@ -109,12 +96,7 @@ module _ {K : Type 0} (items : K → List Target) where
           let (entry, there, wanted) = kept_key entries list place stands in
           let key_there : slice_get (keys_of entries) place ≡ Some entry.0 =
           get_map (λ (e : K × Planned). e.0) entries place entry there in
-          let alike : items entry.0 ≡ items key = targets_alike (items entry.0) (items key)
-          (ap (λ (t : Targets). t.0) wanted ∙ sym own.nodes) (ap (λ (t : Targets). t.1) wanted ∙ sym own.lengths) in (
-            slice_get_within (keys_of entries) place entry.0 key_there,
-            ap (eq key) (get_or_from_slice_get (keys_of entries) place entry.0 key key_there)
-                ∙ compare entry.0 (sym alike),
-          )
+          grind (arith, Targets, get_or_from_slice_get, slice_get_within, targets_alike)
 
       -- the index of a key is the first place for the lists with the key's targets
       pub found_first : (entries : List (K × Planned)) (r : Option ℕ) → r ≡ position (eq key) (keys_of entries)
@@ -147,9 +129,7 @@ module _ {K : Type 0} (items : K → List Target) where
       none_stands entries None is =
           λ list own stands.
           let (within, here) = passes entries list stands.0 own stands.1 in
-          let past : length (keys_of entries) ≤ position_or_len (eq key) (keys_of entries) =
-          grind (arith, common_steps) in
-          true≢false (sym here ∙ fails_before_first (eq key) (keys_of entries) stands.0 key (omega arith))
+          grind (arith, common_steps, fails_before_first)
 
     same_by : (a b : K) → eq a b ≡ true → targets_by a ≡ targets_by b
     same_by a b passes = ap targets_from (same a b passes)

@@ -1,5 +1,7 @@
 -- What stands in a laid out plan, and in which order: its steps rise by a key made of gap, group and node.
-use Rattle.std.proofs.Common.{◌≡◌, ℕ, zero, suc, ◌+◌, ◌*◌, ◌<◌, ◌≤◌, Bool, true, false, not, ◌&&◌, List, [], ◌∷◌, ◌++◌, map, filter, refl, sym, ◌∙◌, ap, subst, inl, inr, arith, eqb, eqb-true, eq-eqb, mul-le-mul_right, suc-mul, append-nil}
+use Rattle.std.proofs.Common.{◌≡◌, ℕ, zero, suc, ◌+◌, ◌*◌, ◌<◌, ◌≤◌, Bool, true, false, not, ◌&&◌, List, [], ◌∷◌, ◌++◌}
+use Rattle.std.proofs.Common.{map, filter, refl, ◌∙◌, ap, subst, inl, inr, arith, eqb, eqb-true, eq-eqb}
+use Rattle.std.proofs.Common.{mul-le-mul_right, suc-mul, append-nil}
 use Rattle.std.proofs.lemmas.Option.{none-some, same_Some}
 use Rattle.std.proofs.lemmas.Bool.{cases_Bool, cases_eq, and_parts, and_from, not-true, not_from_false}
 use Rattle.grove_tree.specs.Trees.{Rows}
@@ -30,10 +32,7 @@ Stands span m (Access g) = g < m
 
 -- in an earlier gap every key is less
 pub gap_less : (w g h r s : ℕ) → g < h → r < w → g * w + r < h * w + s
-gap_less w g h r s lt small =
-    let le : suc g * w ≤ h * w = mul-le-mul_right w lt in
-    let e : suc g * w ≡ w + g * w = step w g in
-    omega arith
+gap_less w g h r s lt small = omega (arith, mul-le-mul_right w lt, step w g)
   where
     step : (w g : ℕ) → suc g * w ≡ w + g * w
     step w g = omega (arith, suc-mul g w)
@@ -103,8 +102,7 @@ module _ (rows : Rows) (span : List ℕ) (lock release : ℕ → ℕ) where
   mapped_stands m p f s each h =
       let r = has_map_from f (filter p span) s h in
       let k = has_filter_from p span r.0 r.1 in
-      let P : Step → Type 0 = λ t. Stands span m t in
-      subst P r.2 (each r.0 k.0)
+      grind (arith)
 
   pub gap_stands : (m g : ℕ) (s : Step) → Has (gap g) s → Stands span m s
   gap_stands m g s h = elim (has_either _ _ s h) [
@@ -120,16 +118,14 @@ module _ (rows : Rows) (span : List ℕ) (lock release : ℕ → ℕ) where
   pub below_has : (m g : ℕ) (s : Step) → g < m → Has (gap g) s → Has (below m) s
   below_has zero g s lt h = absurd (omega arith)
   below_has (suc m) g s lt h = elim (cases_eq g m) [
-    | inl e ↦ let P : ℕ → Type 0 = λ k. Has (gap k) s in
-        has_right (below m) _ s (has_left (gap m) _ s (subst P e h))
+    | inl e ↦ grind (arith, Has, has_left, has_right)
     | inr ne ↦ has_left (below m) _ s (below_has m g s (omega arith) h)
   ]
 
   pub below_access : (m g : ℕ) → g < m → Has (below m) (Access g)
   below_access zero g lt = absurd (omega arith)
   below_access (suc m) g lt = elim (cases_eq g m) [
-    | inl e ↦ let P : ℕ → Type 0 = λ k. Has (below (suc m)) (Access k) in
-        subst P (sym e) (has_right (below m) _ (Access m) (has_right (gap m) _ (Access m) (0, refl)))
+    | inl e ↦ grind (arith, Has, has_right)
     | inr ne ↦ has_left (below m) _ (Access g) (below_access m g (omega arith))
   ]
 
@@ -154,8 +150,7 @@ module _ (rows : Rows) (span : List ℕ) (lock release : ℕ → ℕ) where
   stands_more m (Access g) h = omega arith
 
   access_stands : (m : ℕ) (s : Step) → Has (Access m ∷ []) s → Stands span (suc m) s
-  access_stands m s (zero, h) = let P : Step → Type 0 = λ t. Stands span (suc m) t in
-      subst P (same_Some (Access m) s h) (let r : m < suc m = omega arith in r)
+  access_stands m s (zero, h) = grind (arith, same_Some)
   access_stands m s (suc k, h) = absurd (none-some s h)
 
   pub below_stands : (m : ℕ) (s : Step) → Has (below m) s → Stands span m s
@@ -175,25 +170,14 @@ module _ (rows : Rows) (span : List ℕ) (lock release : ℕ → ℕ) where
   -- The accesses.
 
   gap_accesses : (g : ℕ) → accesses_of (gap g) ≡ []
-  gap_accesses g =
-      no_accesses (earlies g) (locked g ++ lates g)
-      (no_accesses_unlock (filter (λ node. eqb (release node) g && early node) span))
-      (no_accesses (locked g) (lates g) (no_accesses_lock (filter (λ node. eqb (lock node) g) span))
-      (no_accesses_unlock (filter (λ node. eqb (release node) g && not (early node)) span)))
+  gap_accesses g = grind (arith, no_accesses, no_accesses_lock, no_accesses_unlock)
 
   below_accesses : (m : ℕ) → accesses_of (below m) ≡ numbers_below m
   below_accesses zero = refl
-  below_accesses (suc m) =
-      accesses_append (below m) (gap m ++ Access m ∷ [])
-      ∙ (ap (λ l. l ++ accesses_of (gap m ++ Access m ∷ [])) (below_accesses m)
-      ∙ ap (λ l. numbers_below m ++ l) (accesses_append (gap m) (Access m ∷ [])
-      ∙ ap (λ l. l ++ m ∷ []) (gap_accesses m)))
+  below_accesses (suc m) = grind (arith, accesses_append, gap_accesses, below_accesses m)
 
   pub laid_accesses : (m : ℕ) → accesses_of (laid m) ≡ numbers_below m
-  laid_accesses m =
-      accesses_append (below m) (gap m)
-      ∙ (ap (λ l. l ++ accesses_of (gap m)) (below_accesses m)
-      ∙ (ap (λ l. numbers_below m ++ l) (gap_accesses m) ∙ append-nil (numbers_below m)))
+  laid_accesses m = grind (arith, accesses_append, append-nil, below_accesses, gap_accesses)
 
   -- The order.
 
@@ -208,24 +192,13 @@ module _ (rows : Rows) (span : List ℕ) (lock release : ℕ → ℕ) where
     late_key v e = ap (λ b. release v * w + rank_of b n v) e
 
     at_early : (g v : ℕ) → (eqb (release v) g && early v) ≡ true → key (Unlock v) ≡ g * w + v
-    at_early g v h =
-        let p = and_parts (eqb (release v) g) (early v) h in
-        let e : release v ≡ g = eqb-true (release v) g p.0 in
-        early_key v p.1 ∙ ap (λ k. k * w + v) e
+    at_early g v h = grind (arith, and_parts, early_key, eqb-true)
 
     at_lock : (g v : ℕ) → eqb (lock v) g ≡ true → key (Lock v) ≡ (g * w + n) + v
-    at_lock g v h =
-        let e : lock v ≡ g = eqb-true (lock v) g h in
-        let f : lock v * w + (n + v) ≡ g * w + (n + v) = ap (λ k. k * w + (n + v)) e in
-        omega arith
+    at_lock g v h = grind (arith, eqb-true)
 
     at_late : (g v : ℕ) → (eqb (release v) g && not (early v)) ≡ true → key (Unlock v) ≡ (g * w + (n + n)) + v
-    at_late g v h =
-        let p = and_parts (eqb (release v) g) (not (early v)) h in
-        let e : release v ≡ g = eqb-true (release v) g p.0 in
-        let k : key (Unlock v) ≡ release v * w + (n + n + v) = late_key v (not-true (early v) p.1) in
-        let f : release v * w + (n + n + v) ≡ g * w + (n + n + v) = ap (λ k. k * w + (n + n + v)) e in
-        k ∙ (f ∙ omega arith)
+    at_late g v h = grind (arith, and_parts, eqb-true, late_key, not-true)
 
     gap_rises : (g : ℕ) → Rises key (g * w) (g * w + (n + n + n)) (gap g)
     gap_rises g =

@@ -1,5 +1,6 @@
 -- The latest places are the greatest numbers that fit the list and are tight along the flow.
-use Rattle.std.proofs.Common.{◌≡◌, ℕ, suc, ◌+◌, ◌*◌, ◌<◌, ◌≤◌, true, List, map, length, Some, None, ℤ, pos, ◌≤ℤ◌, refl, sym, ◌∙◌, ap, subst, inl, inr, arith}
+use Rattle.std.proofs.Common.{◌≡◌, ℕ, suc, ◌+◌, ◌*◌, ◌<◌, ◌≤◌, true, List, map, length, Some, None, ℤ, pos, ◌≤ℤ◌, refl}
+use Rattle.std.proofs.Common.{sym, ◌∙◌, ap, subst, arith}
 use Rattle.std.specs.List.{slice_get}
 use Rattle.std.proofs.lemmas.Int.{ints}
 use Rattle.std.proofs.lemmas.Bool.{cond-true, cases_lt}
@@ -8,7 +9,7 @@ use Rattle.grove_base.proofs.Counting.{least_is, last_is}
 use Rattle.grove_tree.proofs.Tests.{is_at_true}
 use Rattle.grove_access.specs.Slots.{slots_before}
 use Rattle.grove_access.proofs.Slots.{slots_rise, slots_back, slots_tell}
-use Rattle.grove_access.specs.Forced.{IsForcedByTree, names_at, is_accessed, first_access, last_end}
+use Rattle.grove_access.specs.Forced.{IsForcedByTree, is_accessed, first_access, last_end}
 use Rattle.grove_access.proofs.ForcedByTree.{accessed_is_forced}
 use Rattle.grove_proof.specs.declared.flow.FlowRow.{FlowRow}
 use Rattle.grove_proof.specs.Flows.{is_child}
@@ -55,11 +56,7 @@ module _ (tree : Rows) (nodes lengths : List ℕ) (rows : List SpanRow) (is_span
 
     -- no latest place comes after all slots
     latest_low : (v : ℕ) → place places v ≤ℤ pos top
-    latest_low v = elim (cases_lt v (base + 1)) [
-      | inl lt ↦ latest.candidate.capped v lt
-      | inr ge ↦ nothing_low (place places v) top
-          (past_end places v (let s : length places ≡ base + 1 = latest.candidate.size in omega arith))
-    ]
+    latest_low v = grind (arith, cases_lt, nothing_low, past_end)
 
     -- each latest place stands between two accesses, before the first one or after the last
     pub latest_on : (v : ℕ) → (i : ℕ) × (i ≤ m) × (place places v ≡ pos (slots_before lengths i))
@@ -77,8 +74,7 @@ module _ (tree : Rows) (nodes lengths : List ℕ) (rows : List SpanRow) (is_span
         let c : place places v ≤ℤ raised (slots_before lengths) m (place places v) =
         raised_least (slots_before lengths) one_more m (place places v) (latest_low v) in
         let r = raised_is (slots_before lengths) one_more m (place places v) in
-        let same : place places v ≡ raised (slots_before lengths) m (place places v) = omega (arith, ints) in
-        (r.0, r.1, same ∙ r.2)
+        grind (arith, ints, raised)
       where
         one_more : (i : ℕ) → slots_before lengths i ≤ slots_before lengths (suc i)
         one_more i = slots_rise lengths i (suc i) (omega arith)
@@ -90,15 +86,10 @@ module _ (tree : Rows) (nodes lengths : List ℕ) (rows : List SpanRow) (is_span
         (releases : (k : ℕ) (row : SpanRow) → slice_get rows k ≡ Some row
         → pos (slots_before lengths (release row.node)) ≡ place places (2 * k + 1)) where
       first_within : (v : ℕ) → is_accessed nodes v ≡ true → first_access nodes v ≤ m
-      first_within v some =
-          let l = least_is (length nodes) (names_at nodes v) some in
-          let lt : first_access nodes v < m = l.0 in omega arith
+      first_within v some = grind (arith, least_is)
 
       last_within : (v : ℕ) → is_accessed nodes v ≡ true → last_end nodes v ≤ m
-      last_within v some =
-          let l = last_is (length nodes) (names_at nodes v) some in
-          let is : last_end nodes v ≡ suc l.0 = l.1 in
-          let lt : l.0 < m = l.2 in omega arith
+      last_within v some = grind (arith, last_is)
 
       -- the slots before accesses tell these, so what is asked of places is asked of accesses
       told : (i : ℕ) (row : SpanRow) (f : FlowRow) (kind : Kind) (x a b : ℕ) → slice_get rows i ≡ Some row → slice_get flow i ≡ Some f
@@ -107,12 +98,7 @@ module _ (tree : Rows) (nodes lengths : List ℕ) (rows : List SpanRow) (is_span
       told i row f kind x a b g1 g2 e within below low_is high_is =
           let meets = lawful_meets base i places at_base kind x (amount_of kind f)
           (lawful_rows base rows amounts flow read places latest.candidate.lawful i row f kind x g1 g2 e) in
-          let paired : length lengths ≡ m = is_span.paired in (
-            slots_back lengths a b is_span.are_lengths (omega arith)
-                (pos_back (slots_before lengths a) (slots_before lengths b) _ _ low_is high_is meets.met),
-            λ some. slots_tell lengths a b is_span.are_lengths (omega arith) (omega arith)
-                (pos_same (slots_before lengths a) (slots_before lengths b) _ _ low_is high_is (meets.tight some)),
-          )
+          grind (arith, pos_back, pos_same, slots_back, slots_tell)
 
       module _ (i : ℕ) (row : SpanRow) (f : FlowRow) (g1 : slice_get rows i ≡ Some row) (g2 : slice_get flow i ≡ Some f) where
         above_told : (j : ℕ) (over : SpanRow) → row.parent ≡ Some j → slice_get rows j ≡ Some over
@@ -152,8 +138,7 @@ module _ (tree : Rows) (nodes lengths : List ℕ) (rows : List SpanRow) (is_span
           × (slice_get flow k ≡ Some f) × (row.node ≡ v)
       at_node v sv =
           let r = row_of_node tree nodes lengths rows is_span v sv in
-          let fl = some_left IsReadRow rows flow r.0 r.1 read.each r.2 in
-          (r.0, r.1, fl.0, r.2, fl.1, r.3)
+          grind (arith, some_left)
 
       le_at : (a b x y : ℕ) → a ≤ b → a ≡ x → b ≡ y → x ≤ y
       le_at a b x y le e f = omega arith
@@ -210,8 +195,7 @@ module _ (tree : Rows) (nodes lengths : List ℕ) (rows : List SpanRow) (is_span
         held = λ i j f g a b child. (tight_parent i j f g a b child).1;
         first = λ i f a some p.
             let x = some_right IsReadRow rows flow i f read.each a in
-            ap lock (x.2).node
-            ∙ ((first_told i x.0 f x.1 a (ap (λ n. is_accessed nodes n) (sym (x.2).node) ∙ some)).1 p
+            ap lock (x.2).node ∙ ((first_told i x.0 f x.1 a (ap (λ n. is_accessed nodes n) (sym (x.2).node) ∙ some)).1 p
             ∙ ap (λ n. first_access nodes n) (sym (x.2).node));
         last = λ i f a some p.
             let x = some_right IsReadRow rows flow i f read.each a in
@@ -247,9 +231,4 @@ module _ (tree : Rows) (nodes lengths : List ℕ) (rows : List SpanRow) (is_span
           )
 
       pub latest_are_places : ArePlaces tree nodes flow lock release
-      latest_are_places = record {
-        fits = latest_fits;
-        tight = latest_tight;
-        lock_greatest = λ lock2 release2 f t v sv. (other_below lock2 release2 f t v sv).0;
-        release_greatest = λ lock2 release2 f t v sv. (other_below lock2 release2 f t v sv).1;
-      }
+      latest_are_places = grind (arith, latest_fits, latest_tight, other_below)

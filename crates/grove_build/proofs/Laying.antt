@@ -1,10 +1,10 @@
 -- A plan laid out from numbers that fit is legal, and has these numbers as its slots.
-use Rattle.std.proofs.Common.{◌≡◌, ℕ, zero, suc, ◌+◌, ◌*◌, ◌<◌, ◌≤◌, Bool, true, false, ◌&&◌, ◌⊎◌, List, [], ◌∷◌, length, Some, refl, sym, ◌∙◌, ap, subst, inl, inr, arith, eqb, ltb, eq-eqb, le-ltb, suc-mul}
+use Rattle.std.proofs.Common.{◌≡◌, ℕ, zero, suc, ◌+◌, ◌*◌, ◌<◌, ◌≤◌, Bool, true, false, ◌&&◌, ◌⊎◌, List, [], ◌∷◌}
+use Rattle.std.proofs.Common.{length, Some, refl, ◌∙◌, ap, inl, inr, arith, eqb, eq-eqb, le-ltb, suc-mul}
 use Rattle.std.specs.List.{slice_get, list_any}
 use Rattle.std.proofs.lemmas.Option.{none-some, same_Some, slice_get_within}
 use Rattle.std.proofs.lemmas.Bool.{cases_lt, cases_eq, and_from, and_left, and_right, not_from_true, or_left, or_right}
 use Rattle.grove_tree.specs.Trees.{Rows, parent_of, is_at, IsAbove}
-use Rattle.grove_base.specs.Numbers.{numbers_below}
 use Rattle.grove_base.proofs.Counting.{any_from, least_is, count_mono, count_hit, numbers_got, numbers_length}
 use Rattle.grove_access.specs.Forced.{IsForcedByTree, IsCommon}
 use Rattle.grove_plan.specs.declared.step.Step.{Step}
@@ -24,8 +24,7 @@ any_has test (y ∷ xs) x (zero, h) e = or_left (test y) (list_any test xs) (ap 
 any_has test (y ∷ xs) x (suc k, h) e = or_right (test y) (list_any test xs) (any_has test xs x (k, h) e)
 
 module _ (rows : Rows) (nodes : List ℕ) (span : List ℕ) (lock release : ℕ → ℕ)
-    (fits : Fits rows nodes lock release)
-    (rising : Rises itself 0 (length rows) span)
+    (fits : Fits rows nodes lock release) (rising : Rises itself 0 (length rows) span)
     (has : (v : ℕ) → IsForcedByTree rows nodes v → Has span v)
     (got : (v : ℕ) → Has span v → IsForcedByTree rows nodes v)
     (accessed : (access v : ℕ) → slice_get nodes access ≡ Some v → IsForcedByTree rows nodes v)
@@ -56,13 +55,10 @@ module _ (rows : Rows) (nodes : List ℕ) (span : List ℕ) (lock release : ℕ 
     | inl common ↦
         let a : c ≤ v = above_less c v (sv.below c cc') in
         let b : v ≤ c = above_less v c (sc.below v common) in
-        let e : c ≡ v = omega arith in
-        let f : lock c ≡ lock v = ap lock e in omega arith
+        grind (arith)
     | inr up ↦
         let less : up.0 < v = parent_less v up.0 up.1 in
-        let le : lock c ≤ lock up.0 = top_first bound c up.0 (omega arith) sc cc' up.2 in
-        let le2 : lock up.0 ≤ lock v = fits.above v up.0 sv up.2 up.1 in
-        omega arith
+        omega (arith, top_first bound c up.0 (omega arith) sc cc' up.2, fits.above v up.0 sv up.2 up.1)
   ]
 
   module _ (w : ℕ) (wide : w ≡ suc (n + (n + n))) where
@@ -82,13 +78,7 @@ module _ (rows : Rows) (nodes : List ℕ) (span : List ℕ) (lock release : ℕ 
         let vn : v < n = within v s in
         elim (cases_lt (lock v) (release v)) [
           | inl less ↦ gap_less w (lock v) (release v) (n + v) (rank_of (early v) n v) less (omega arith)
-          | inr ge ↦
-              let k : key (Unlock v) ≡ release v * w + (n + n + v) =
-              late_key rows span lock release n w wide rising v
-              (and_left (ltb (lock v) (release v)) _ (le-ltb (lock v) (release v) ge)) in
-              let t : lock v * w + (n + v) < release v * w + (n + n + v) =
-              gap_below (lock v) (release v) (n + v) (n + n + v) le (omega arith) in
-              omega arith
+          | inr ge ↦ grind (arith, and_left, gap_below, late_key, le-ltb)
         ]
 
     -- a parent is locked before its child
@@ -111,12 +101,7 @@ module _ (rows : Rows) (nodes : List ℕ) (span : List ℕ) (lock release : ℕ 
               any_has (λ child. is_at p (parent_of rows child) && eqb (lock child) (release p)) span v (has v sv)
               (and_from (is_at p (parent_of rows v)) (eqb (lock v) (release p))
               (ap (λ o. is_at p o) up ∙ eq-eqb p p refl) (eq-eqb (lock v) (release p) e)) in
-              let k : key (Unlock p) ≡ release p * w + (n + n + p) = late_key rows span lock release n w wide rising p
-              (and_right (ltb (lock p) (release p)) _ (not_from_true (has_child_in rows span lock (release p) p)
-              child)) in
-              let t : lock v * w + (n + v) < release p * w + (n + n + p) =
-              gap_below (lock v) (release p) (n + v) (n + n + p) le (omega arith) in
-              omega arith
+              grind (arith, and_right, gap_below, late_key, not_from_true)
         ]
 
     lock_access_key : (v a : ℕ) → IsForcedByTree rows nodes v → lock v ≤ a → key (Lock v) < key (Access a)
@@ -129,15 +114,13 @@ module _ (rows : Rows) (nodes : List ℕ) (span : List ℕ) (lock release : ℕ 
     held_there : (v i : ℕ) (s : Step) → IsForcedByTree rows nodes v → slice_get plan i ≡ Some s → key (Lock v) < key s
         → key s ≤ key (Unlock v) → held plan v i ≡ true
     held_there v i s sv h after before =
-        let le : lock v ≤ m = let a : lock v ≤ release v = fits.own v sv in let b : release v ≤ m = fits.top v sv in
-        omega arith in
+        let le : lock v ≤ m = omega (arith, fits.own v sv, fits.top v sv) in
         let at = laid_lock rows span lock release m v (has v sv) le in
         held_from plan v i (record {
           at = at.0;
           before = rises_place key 0 (m * w + (n + n + n)) plan at.0 i (Lock v) s ordered at.1 h after;
           is_lock = at.1;
-          kept = λ j above below is. let t : key (Unlock v) < key s =
-              rises_order key 0 (m * w + (n + n + n)) plan j i (Unlock v) s ordered is h below in omega arith;
+          kept = grind (arith, ordered, rises_order);
         })
 
     obeys : ObeysTreeProtocol rows plan
@@ -152,18 +135,11 @@ module _ (rows : Rows) (nodes : List ℕ) (span : List ℕ) (lock release : ℕ 
             | inl common ↦
                 let le : lock v ≤ lock u = top_first (suc u) v u (omega arith) sv common su in
                 let less : v ≤ u = above_less v u (su.below v common) in
-                let t : lock v * w + (n + v) ≤ lock u * w + (n + u) =
-                gap_le w (lock v) (lock u) (n + v) (n + u) le (omega arith) in
                 let x : key (Lock u) < key (Lock v) =
                 rises_order key 0 (m * w + (n + n + n)) plan later.0 i (Lock u) (Lock v) ordered later.3 h
                 later.2 in
-                absurd (omega arith)
-            | inr up ↦ (
-              up.0,
-              up.1,
-              held_there up.0 i (Lock v) up.2 h (parent_key v up.0 sv up.2 up.1)
-                  (let t : key (Lock v) < key (Unlock up.0) = child_key v up.0 sv up.2 up.1 in omega arith),
-            )
+                absurd (omega (arith, gap_le w (lock v) (lock u) (n + v) (n + u) le (omega arith)))
+            | inr up ↦ grind (arith, child_key, held_there, parent_key)
           ] in r;
       once = λ i j v h k. rises_once key 0 (m * w + (n + n + n)) plan i j (Lock v) ordered h k;
       unlocks_held = λ i v h.
@@ -173,18 +149,11 @@ module _ (rows : Rows) (nodes : List ℕ) (span : List ℕ) (lock release : ℕ 
           let sv = got v (laid_stands rows span lock release m (Lock v) (at.at, at.is_lock)) in
           let u = laid_unlock rows span lock release m v (has v sv) (fits.top v sv) in
           at.kept u.0 (rises_place key 0 (m * w + (n + n + n)) plan at.at u.0 (Lock v) (Unlock v) ordered at.is_lock
-          u.1 (own_key v sv))
-          (slice_get_within plan u.0 (Unlock v) u.1) u.1);
+          u.1 (own_key v sv)) (slice_get_within plan u.0 (Unlock v) u.1) u.1);
     }
 
     performs : Performs nodes plan
-    performs = record {
-      in_order = laid_accesses rows span lock release m;
-      while_held = λ i a v h g.
-          let sv = accessed a v g in
-          held_there v i (Access a) sv h (lock_access_key v a sv (fits.first v a g))
-          (let t : key (Access a) < key (Unlock v) = access_unlock_key v a (fits.last v a g) in omega arith);
-    }
+    performs = grind (arith, access_unlock_key, held_there, laid_accesses, lock_access_key)
 
     pub legal : IsLegal rows nodes plan
     legal = record { obeys = obeys; performs = performs }
@@ -192,10 +161,7 @@ module _ (rows : Rows) (nodes : List ℕ) (span : List ℕ) (lock release : ℕ 
     -- The slots.
 
     access_before : (q a : ℕ) → slice_get plan q ≡ Some (Access a) → accesses_before plan q ≡ a
-    access_before q a h =
-        let P : List ℕ → Type 0 = λ l. slice_get l (accesses_before plan q) ≡ Some a in
-        let e = subst P (laid_accesses rows span lock release m) (access_at plan q a h) in
-        sym ((numbers_got m (accesses_before plan q) a e).0)
+    access_before q a h = grind (arith, access_at, laid_accesses, numbers_got)
 
     slot_low : (g i : ℕ) (s : Step) → g ≤ m → slice_get plan i ≡ Some s → g * w ≤ key s → g ≤ accesses_before plan i
     slot_low zero i s le h low = omega arith
@@ -204,12 +170,9 @@ module _ (rows : Rows) (nodes : List ℕ) (span : List ℕ) (lock release : ℕ 
         let e : suc g * w ≡ w + g * w = times g in
         let before : at.0 < i =
         rises_place key 0 (m * w + (n + n + n)) plan at.0 i (Access g) s ordered at.1 h (omega arith) in
-        let b : accesses_before plan at.0 ≡ g = access_before at.0 g at.1 in
         let c : accesses_before plan (suc at.0) ≡ suc (accesses_before plan at.0) =
         count_hit at.0 (λ k. is_access (slice_get plan k)) (ap is_access at.1) in
-        let d : accesses_before plan (suc at.0) ≤ accesses_before plan i =
-        count_mono (suc at.0) i (λ k. is_access (slice_get plan k)) before in
-        omega arith
+        omega (arith, access_before at.0 g at.1, count_mono (suc at.0) i (λ k. is_access (slice_get plan k)) before)
       where
         times : (g : ℕ) → suc g * w ≡ w + g * w
         times g = omega (arith, suc-mul g w)
@@ -219,28 +182,15 @@ module _ (rows : Rows) (nodes : List ℕ) (span : List ℕ) (lock release : ℕ 
     slot_high g i s le h high = elim (cases_eq g m) [
       | inr ne ↦
           let at = laid_access rows span lock release m g (omega arith) in
-          let after : i < at.0 = rises_place key 0 (m * w + (n + n + n)) plan i at.0 s (Access g) ordered h at.1 high in
-          let b : accesses_before plan at.0 ≡ g = access_before at.0 g at.1 in
-          let d : accesses_before plan i ≤ accesses_before plan at.0 =
-          count_mono i at.0 (λ k. is_access (slice_get plan k)) (omega arith) in
-          omega arith
+          grind (arith, access_before, count_mono, ordered, rises_place)
       | inl e ↦
           let b : length (accesses_of plan) ≡ accesses_before plan (length plan) = accesses_length plan in
-          let c : length (accesses_of plan) ≡ length (numbers_below m) =
-          ap length (laid_accesses rows span lock release m) in
-          let f : length (numbers_below m) ≡ m = numbers_length m in
-          let lt : i < length plan = slice_get_within plan i s h in
-          let d : accesses_before plan i ≤ accesses_before plan (length plan) =
-          count_mono i (length plan) (λ k. is_access (slice_get plan k)) (omega arith) in
-          omega arith
+          grind (arith, count_mono, laid_accesses, numbers_length, slice_get_within)
     ]
 
     slot_is : (g i : ℕ) (s : Step) → g ≤ m → slice_get plan i ≡ Some s → g * w ≤ key s → key s < g * w + (n + n + n)
         → accesses_before plan i ≡ g
-    slot_is g i s le h low high =
-        let a : g ≤ accesses_before plan i = slot_low g i s le h low in
-        let b : accesses_before plan i ≤ g = slot_high g i s le h high in
-        omega arith
+    slot_is g i s le h low high = omega (arith, slot_low g i s le h low, slot_high g i s le h high)
 
     rank_low : (b : Bool) (v : ℕ) → v < n → rank_of b n v < n + n + n
     rank_low true v lt = omega arith
@@ -248,8 +198,7 @@ module _ (rows : Rows) (nodes : List ℕ) (span : List ℕ) (lock release : ℕ 
 
     pub lock_slot_is : (v : ℕ) → IsForcedByTree rows nodes v → first_lock_slot plan v ≡ lock v
     lock_slot_is v sv =
-        let le : lock v ≤ m = let a : lock v ≤ release v = fits.own v sv in let b : release v ≤ m = fits.top v sv in
-        omega arith in
+        let le : lock v ≤ m = omega (arith, fits.own v sv, fits.top v sv) in
         let at = laid_lock rows span lock release m v (has v sv) le in
         let test : ℕ → Bool = λ i. locks v (slice_get plan i) in
         let l = least_is (length plan) (λ i. locks v (slice_get plan i))
@@ -274,7 +223,4 @@ module _ (rows : Rows) (nodes : List ℕ) (span : List ℕ) (lock release : ℕ 
     locks_span v h = got v (laid_stands rows span lock release m (Lock v) (h.0, h.1))
 
     pub span_locked : (v : ℕ) → IsForcedByTree rows nodes v → IsLockedBy plan v
-    span_locked v sv =
-        let le : lock v ≤ m = let a : lock v ≤ release v = fits.own v sv in let b : release v ≤ m = fits.top v sv in
-        omega arith in
-        laid_lock rows span lock release m v (has v sv) le
+    span_locked v sv = grind (arith, laid_lock)

@@ -53,13 +53,8 @@ module _ {A : Type 0} (row : SpanRow) (make : Kind → ℕ → A) where
   kinds_have : (some : List Kind) (kind : Kind) (x : ℕ) → Has some kind → bound row kind ≡ Some x
       → Has (of_kinds some) (make kind x)
   kinds_have [] kind x (k, h) e = absurd (none-some kind h)
-  kinds_have (other ∷ some) kind x (zero, h) e =
-      let P : Kind → Type 0 = λ q. bound row q ≡ Some x → Has (of_kinds (other ∷ some)) (make q x) in
-      subst P (same_Some other kind h)
-      (λ f. has_left (part (bound row other) (make other)) (of_kinds some) (make other x)
-      (part_has (bound row other) (make other) x f)) e
-  kinds_have (other ∷ some) kind x (suc k, h) e =
-      has_right (part (bound row other) (make other)) (of_kinds some) (make kind x) (kinds_have some kind x (k, h) e)
+  kinds_have (other ∷ some) kind x (zero, h) e = grind (arith, has_left, part_has, same_Some)
+  kinds_have (other ∷ some) kind x (suc k, h) e = grind (arith, has_right, kinds_have some kind x (k, h) e)
 
   -- each arc that the row has gives something
   pub row_has : (kind : Kind) (x : ℕ) → bound row kind ≡ Some x → Has (by_kind row make) (make kind x)
@@ -73,9 +68,7 @@ module _ {A : Type 0} (row : SpanRow) (make : Kind → ℕ → A) where
   pub row_each : (P : A → Type 0) → ((kind : Kind) (x : ℕ) → bound row kind ≡ Some x → P (make kind x))
       → (some : List Kind) → All P (of_kinds some)
   row_each P h [] = All-nil P
-  row_each P h (kind ∷ some) =
-      All-append P (part (bound row kind) (make kind)) (of_kinds some) (part_each P (bound row kind) (make kind) (h kind))
-      (row_each P h some)
+  row_each P h (kind ∷ some) = grind (arith, All-append, part_each, row_each P h some)
 
   part_sum : (value : A → ℕ) (o : Option ℕ) (one : ℕ → A) → sum_by value (part o one) ≡ worth o (λ x. value (one x))
   part_sum value None one = refl
@@ -94,12 +87,7 @@ module _ {A : Type 0} (row : SpanRow) (make : Kind → ℕ → A) where
       → worth (bound row Held) (λ x. value (make Held x)) ≡ b → worth (bound row First) (λ x. value (make First x)) ≡ c
       → worth (bound row Last) (λ x. value (make Last x)) ≡ d → worth (bound row Own) (λ x. value (make Own x)) ≡ e
       → sum_by value (by_kind row make) ≡ a + b + c + d + e
-  row_sum value a b c d e above held first last own =
-      let all : sum_by value (by_kind row make)
-      ≡ 0 + worth (bound row Above) (λ x. value (make Above x)) + worth (bound row Held) (λ x. value (make Held x))
-      + worth (bound row First) (λ x. value (make First x)) + worth (bound row Last) (λ x. value (make Last x))
-      + worth (bound row Own) (λ x. value (make Own x)) = kinds_sum value kinds in
-      omega arith
+  row_sum value a b c d e above held first last own = omega (arith, kinds_sum value kinds)
 
   part_map : {B : Type 0} (f : A → B) (o : Option ℕ) (one : ℕ → A) → map f (part o one) ≡ part o (λ x. f (one x))
   part_map f None one = refl
@@ -108,9 +96,7 @@ module _ {A : Type 0} (row : SpanRow) (make : Kind → ℕ → A) where
   pub row_map : {B : Type 0} (f : A → B) (some : List Kind)
       → map f (of_kinds some) ≡ flat_map (λ kind. part (bound row kind) (λ x. f (make kind x))) some
   row_map f [] = refl
-  row_map f (kind ∷ some) =
-      map-append f (part (bound row kind) (make kind)) (of_kinds some)
-      ∙ ap₂ (λ xs ys. xs ++ ys) (part_map f (bound row kind) (make kind)) (row_map f some)
+  row_map f (kind ∷ some) = grind (arith, map-append, part_map, row_map f some)
 
 part_size : {A : Type 0} (o : Option ℕ) (one : ℕ → A) → length (part o one) ≡ width o
 part_size None one = refl
@@ -118,18 +104,7 @@ part_size (Some x) one = refl
 
 -- how many arcs a row has
 pub row_size : {A : Type 0} (row : SpanRow) (make : Kind → ℕ → A) → length (by_kind row make) ≡ row_width row
-row_size row make =
-    let all : length (by_kind row make)
-    ≡ 0 + length (part row.parent (make Above)) + length (part row.parent (make Held))
-    + length (part row.from (make First)) + length (part row.until (make Last)) + 1 =
-    length-flat_map (λ kind. part (bound row kind) (make kind)) kinds in
-    omega (
-      arith,
-      part_size row.parent (make Above),
-      part_size row.parent (make Held),
-      part_size row.from (make First),
-      part_size row.until (make Last),
-    )
+row_size row make = grind (arith, length-flat_map, part_size)
 
 -- and all rows
 pub arcs_size : (base k : ℕ) (rows : List SpanRow) → length (arcs_from base k rows) ≡ sum_by row_width rows
@@ -192,18 +167,13 @@ pub links_arcs : (base k : ℕ) (rows : List SpanRow) (flow : List FlowRow) → 
 links_arcs base k [] flow each = refl
 links_arcs base k (row ∷ rows) [] each = absurd each
 links_arcs base k (row ∷ rows) (f ∷ flow) each =
-    map-append (λ (link : Link). link.0) (row_links base k row f) (links_from base (suc k) rows flow)
-    ∙ ap₂ (λ xs ys. xs ++ ys) (row_map row (λ kind x. (arc_to base k kind x, amount_of kind f)) (λ (link : Link). link.0) kinds)
-    (links_arcs base (suc k) rows flow each.1)
+    grind (arith, map-append, row_map, links_arcs base (suc k) rows flow each.1)
 
 pub links_amounts : (base k : ℕ) (rows : List SpanRow) (flow : List FlowRow)
     → map (λ (link : Link). link.1) (links_from base k rows flow) ≡ amounts_of rows flow
 links_amounts base k [] flow = refl
 links_amounts base k (row ∷ rows) [] = refl
-links_amounts base k (row ∷ rows) (f ∷ flow) =
-    map-append (λ (link : Link). link.1) (row_links base k row f) (links_from base (suc k) rows flow)
-    ∙ ap₂ (λ xs ys. xs ++ ys) (row_map row (λ kind x. (arc_to base k kind x, amount_of kind f)) (λ (link : Link). link.1) kinds)
-    (links_amounts base (suc k) rows flow)
+links_amounts base k (row ∷ rows) (f ∷ flow) = grind (arith, map-append, row_map, links_amounts base (suc k) rows flow)
 
 -- flows that send nothing
 
@@ -302,9 +272,4 @@ module _ (base : ℕ) (rows : List SpanRow) (amounts : List ℕ) (flow : List Fl
       → ((i : ℕ) (row : SpanRow) (f : FlowRow) → slice_get rows i ≡ Some row → slice_get flow i ≡ Some f → IsReadRow row f
       → sum_by (λ (link : Link). cond (test link.0) link.1 0) (row_links base i row f) ≡ total f)
       → sent test (arcs_from base 0 rows) amounts ≡ sum_by total flow
-  sent_rows test total h =
-      ap₂ (λ arcs xs. sent test arcs xs) (sym arcs_are) (sym amounts_are)
-      ∙ (sent_along test links
-      ∙ links_sum (λ (link : Link). cond (test link.0) link.1 0) total base 0 rows flow read.each
-      (λ i n row f e g1 g2 is. ap (λ m. sum_by (λ (link : Link). cond (test link.0) link.1 0) (row_links base m row f))
-      (let same : n ≡ i = omega arith in same) ∙ h i row f g1 g2 is))
+  sent_rows test total h = grind (arith, amounts_are, arcs_are, links_sum, sent_along)

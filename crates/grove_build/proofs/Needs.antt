@@ -22,18 +22,15 @@ use Rattle.grove_build.proofs.Batched.{some_right}
 use Rattle.grove_build.proofs.Found.{row_spanned, parent_found, parent_known}
 use Rattle.grove_build.proofs.Links.{Link, worth, row_sum, sent_rows}
 use Rattle.grove_build.proofs.Pairs.{pairs_lock, pairs_release, pairs_size}
+use Rattle.grove_flow.proofs.Closed.{cond_none}
 
 -- Even and odd variables.
 
 even_test : (a b : ℕ) → eqb (2 * a) (2 * b) ≡ eqb a b
-even_test a b = same_tests (eqb (2 * a) (2 * b)) (eqb a b)
-    (λ h. let e : 2 * a ≡ 2 * b = eqb-true (2 * a) (2 * b) h in eq-eqb a b (omega arith))
-    (λ h. let e : a ≡ b = eqb-true a b h in eq-eqb (2 * a) (2 * b) (omega arith))
+even_test a b = grind (arith, eq-eqb, eqb-true, same_tests)
 
 odd_test : (a b : ℕ) → eqb (2 * a + 1) (2 * b + 1) ≡ eqb a b
-odd_test a b = same_tests (eqb (2 * a + 1) (2 * b + 1)) (eqb a b)
-    (λ h. let e : 2 * a + 1 ≡ 2 * b + 1 = eqb-true (2 * a + 1) (2 * b + 1) h in eq-eqb a b (omega arith))
-    (λ h. let e : a ≡ b = eqb-true a b h in eq-eqb (2 * a + 1) (2 * b + 1) (omega arith))
+odd_test a b = grind (arith, eq-eqb, eqb-true, same_tests)
 
 odd_even : (a b : ℕ) → eqb (2 * a + 1) (2 * b) ≡ false
 odd_even a b = ne_eqb (2 * a + 1) (2 * b) (λ e. omega arith)
@@ -46,13 +43,9 @@ even_less a b lt = ne_eqb (2 * a) (2 * b) (λ e. omega arith)
 
 -- what an arc adds that passes a test, or doesn't
 
-cond_zero : (b : Bool) → ◌≡◌ {A = ℕ} (cond b 0 0) 0
-cond_zero true = refl
-cond_zero false = refl
-
 one_end : (o : Option ℕ) (test : ℕ → Bool) (b : Bool) (amount : ℕ) → (o ≡ None → amount ≡ 0) → ((x : ℕ) → test x ≡ b)
     → worth o (λ x. cond (test x) amount 0) ≡ cond b amount 0
-one_end None test b amount none same = sym (ap (λ n. cond b n 0) (none refl) ∙ cond_zero b)
+one_end None test b amount none same = sym (ap (λ n. cond b n 0) (none refl) ∙ cond_none b)
 one_end (Some x) test b amount none same = ap (λ t. cond t amount 0) (same x)
 
 -- where the test is for the parent
@@ -78,9 +71,7 @@ need_release tree rows k row h =
     pairs_release (λ weight. neg_ℤ (pos weight)) (λ weight. pos weight) (weights_of tree rows) k (weight_of tree row.node) (need_at tree rows k row h)
 
 pub needs_size : (tree : Rows) (rows : List SpanRow) → length (needs_of tree rows) ≡ 2 * length rows + 1
-needs_size tree rows =
-    pairs_size (λ weight. neg_ℤ (pos weight)) (λ weight. pos weight) (weights_of tree rows)
-    ∙ ap (λ n. 2 * n + 1) (map_length (λ (r : SpanRow). weight_of tree r.node) rows)
+needs_size tree rows = grind (arith, map_length, pairs_size)
 
 lock_meets : (i o w : ℕ) (z : ℤ) → z ≡ neg_ℤ (pos w) → pos i ≡ pos o +ℤ z → i + w ≡ o
 lock_meets i o w z e h = omega (arith, ints)
@@ -91,13 +82,11 @@ release_meets i o w z e h zero_out = omega (arith, ints)
 module _ (tree : Rows) (nodes lengths : List ℕ) (rows : List SpanRow) (is_span : IsSpan tree nodes lengths rows) where
   -- a row's parent is at a place exactly where it is the node there
   pub parent_at : (j : ℕ) (over : SpanRow) → slice_get rows j ≡ Some over → (i : ℕ) (row : SpanRow)
-      → slice_get rows i ≡ Some row
-      → is_at j row.parent ≡ is_at over.node (parent_of tree row.node)
+      → slice_get rows i ≡ Some row → is_at j row.parent ≡ is_at over.node (parent_of tree row.node)
   parent_at j over g i row h = same_tests (is_at j row.parent) (is_at over.node (parent_of tree row.node))
       (λ e.
       let k = parent_known tree nodes lengths rows is_span i j row h (is_at_true j row.parent e) in
-      let same : k.0 ≡ over = same_Some k.0 over (sym k.1 ∙ g) in
-      is_at_from over.node (parent_of tree row.node) (k.2 ∙ ap (λ (x : SpanRow). Some x.node) same))
+      grind (arith, is_at_from, same_Some))
       (λ e.
       let p = parent_found tree nodes lengths rows is_span i over.node row h
       (is_at_true over.node (parent_of tree row.node) e) (row_spanned tree nodes lengths rows is_span j over g) in
@@ -166,8 +155,7 @@ module _ (tree : Rows) (nodes lengths : List ℕ) (rows : List SpanRow) (is_span
         (one_end row.parent (λ x. eqb (2 * x + 1) (2 * j)) false g.held (is.none Held) (λ x. odd_even x j))
         (one_end row.from (λ x. eqb (2 * length rows) (2 * j)) false g.first (is.none First) (λ x. even_less (length rows) j lt))
         (one_end row.until (λ x. eqb (2 * i + 1) (2 * j)) false g.last (is.none Last) (λ x. odd_even i j))
-        (one_end (Some 0) (λ x. eqb (2 * i + 1) (2 * j)) false g.own (is.none Own) (λ x. odd_even i j))
-        ∙ (omega arith))
+        (one_end (Some 0) (λ x. eqb (2 * i + 1) (2 * j)) false g.own (is.none Own) (λ x. odd_even i j)) ∙ (omega arith))
         ∙ here_is (λ g. g.above)
 
     out_lock : amount_out arcs amounts (2 * j) ≡ child_sum tree (λ g. g.above) flow f + f.held + f.first + f.own
@@ -202,8 +190,7 @@ module _ (tree : Rows) (nodes lengths : List ℕ) (rows : List SpanRow) (is_span
         (one_end row.from (λ x. eqb (2 * length rows) (2 * j + 1)) false g.first (is.none First) (λ x. even_odd (length rows) j))
         (one_end row.until (λ x. eqb (2 * i + 1) (2 * j + 1)) (eqb g.node f.node) g.last (is.none Last) (λ x. odd_test i j ∙ b))
         (one_end (Some 0) (λ x. eqb (2 * i + 1) (2 * j + 1)) (eqb g.node f.node) g.own (is.none Own) (λ x. odd_test i j ∙ b))
-        ∙ (omega arith))
-        ∙ (sums_add (λ g. below (λ h. h.held) g + here (λ h. h.last) g) (here (λ h. h.own)) flow
+        ∙ (omega arith)) ∙ (sums_add (λ g. below (λ h. h.held) g + here (λ h. h.last) g) (here (λ h. h.own)) flow
         ∙ ap₂ (λ a b. a + b) (sums_add (below (λ h. h.held)) (here (λ h. h.last)) flow
         ∙ ap (λ b. child_sum tree (λ g. g.held) flow f + b) (here_is (λ h. h.last))) (here_is (λ h. h.own)))
 
@@ -211,8 +198,7 @@ module _ (tree : Rows) (nodes lengths : List ℕ) (rows : List SpanRow) (is_span
     out_release =
         sent_rows (2 * length rows) rows amounts flow read (λ a. eqb a.from (2 * j + 1)) (λ g. 0) (λ i row g at at2 is.
         row_sum row (λ kind x. (arc_to (2 * length rows) i kind x, amount_of kind g)) (λ (l : Link). cond (eqb (l.0).from (2 * j + 1)) l.1 0)
-        0 0 0 0 0
-        (one_end row.parent (λ x. eqb (2 * x) (2 * j + 1)) false g.above (is.none Above) (λ x. even_odd x j))
+        0 0 0 0 0 (one_end row.parent (λ x. eqb (2 * x) (2 * j + 1)) false g.above (is.none Above) (λ x. even_odd x j))
         (one_end row.parent (λ x. eqb (2 * i) (2 * j + 1)) false g.held (is.none Held) (λ x. even_odd i j))
         (one_end row.from (λ x. eqb (2 * i) (2 * j + 1)) false g.first (is.none First) (λ x. even_odd i j))
         (one_end row.until (λ x. eqb (2 * length rows) (2 * j + 1)) false g.last (is.none Last) (λ x. even_odd (length rows) j))
@@ -238,12 +224,4 @@ module _ (tree : Rows) (nodes lengths : List ℕ) (rows : List SpanRow) (is_span
 
     pub release_balanced : is_release_balanced tree flow f ≡ true
     release_balanced =
-        let size : length (needs_of tree rows) ≡ 2 * length rows + 1 = needs_size tree rows in
-        let within : j < length rows = lt in
-        let i = in_release in
-        let w = weight_same in
-        let e : amount_in arcs amounts (2 * j + 1) ≡ weight_of tree over.node =
-        release_meets (amount_in arcs amounts (2 * j + 1)) (amount_out arcs amounts (2 * j + 1))
-        (weight_of tree over.node) (place (needs_of tree rows) (2 * j + 1)) (need_release tree rows j over there)
-        (solution.balanced (2 * j + 1) (omega arith)) out_release in
-        eq-eqb (child_sum tree (λ child. child.held) flow f + f.last + f.own) (weight_of tree f.node) (omega arith)
+        grind (arith, eq-eqb, in_release, lt, need_release, needs_size, out_release, release_meets, weight_same)

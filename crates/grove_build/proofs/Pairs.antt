@@ -1,5 +1,5 @@
 -- What the locks and releases of rows have, by their variables: at 2k and 2k + 1, and the base after them all.
-use Rattle.std.proofs.Common.{◌≡◌, ℕ, zero, suc, ◌+◌, ◌*◌, List, [], ◌∷◌, length, Some, ℤ, pos, refl, ◌∙◌, ap, arith}
+use Rattle.std.proofs.Common.{◌≡◌, ℕ, zero, suc, ◌+◌, ◌*◌, List, [], ◌∷◌, length, Some, ℤ, pos, refl, ap, arith}
 use Rattle.std.specs.List.{slice_get}
 use Rattle.std.proofs.lemmas.Option.{none-some, same_Some}
 use Rattle.grove_flow.specs.Networks.{place}
@@ -14,27 +14,23 @@ odd_more k = omega arith
 module _ {A : Type 0} (lock release : A → ℤ) where
   pub pairs_size : (rows : List A) → length (pairs lock release rows) ≡ 2 * length rows + 1
   pairs_size [] = refl
-  pairs_size (row ∷ rows) =
-      let rest : length (pairs lock release rows) ≡ 2 * length rows + 1 = pairs_size rows in omega arith
+  pairs_size (row ∷ rows) = grind (arith, pairs_size rows)
 
   pub pairs_lock : (rows : List A) (k : ℕ) (row : A) → slice_get rows k ≡ Some row
       → place (pairs lock release rows) (2 * k) ≡ lock row
   pairs_lock [] k row h = absurd (none-some row h)
   pairs_lock (r ∷ rows) zero row h = ap lock (same_Some r row h)
-  pairs_lock (r ∷ rows) (suc k) row h =
-      ap (λ (v : ℕ). place (pairs lock release (r ∷ rows)) v) (two_more k) ∙ pairs_lock rows k row h
+  pairs_lock (r ∷ rows) (suc k) row h = grind (arith, two_more, pairs_lock rows k row h)
 
   pub pairs_release : (rows : List A) (k : ℕ) (row : A) → slice_get rows k ≡ Some row
       → place (pairs lock release rows) (2 * k + 1) ≡ release row
   pairs_release [] k row h = absurd (none-some row h)
   pairs_release (r ∷ rows) zero row h = ap release (same_Some r row h)
-  pairs_release (r ∷ rows) (suc k) row h =
-      ap (λ (v : ℕ). place (pairs lock release (r ∷ rows)) v) (odd_more k) ∙ pairs_release rows k row h
+  pairs_release (r ∷ rows) (suc k) row h = grind (arith, odd_more, pairs_release rows k row h)
 
   pub pairs_base : (rows : List A) → place (pairs lock release rows) (2 * length rows) ≡ pos 0
   pairs_base [] = refl
-  pairs_base (row ∷ rows) =
-      ap (λ (v : ℕ). place (pairs lock release (row ∷ rows)) v) (two_more (length rows)) ∙ pairs_base rows
+  pairs_base (row ∷ rows) = grind (arith, two_more, pairs_base rows)
 
   -- what holds of 0 and of what each row has
   pub pairs_each : (P : ℤ → Type 0) → P (pos 0) → (rows : List A)

@@ -1,6 +1,5 @@
 -- The last of some plans, kept for the list that stands at its place.
-use Rattle.std.proofs.Common.{◌≡◌, ◌∙◌, ℕ, ◌+◌, List, [], ◌∷◌, ◌++◌, length, get_or, Some, sym, subst, inl, inr}
-use Rattle.std.proofs.Common.{arith, Bor}
+use Rattle.std.proofs.Common.{◌≡◌, ◌∙◌, ℕ, ◌+◌, List, [], ◌∷◌, ◌++◌, length, get_or, Some, sym, subst, arith, Bor}
 use Rattle.std.specs.List.{slice_get, AllZip}
 use Rattle.std.proofs.lemmas.Bool.{cases_eq}
 use Rattle.std.proofs.lemmas.Option.{slice_get_within, get_or_from_slice_get}
@@ -43,9 +42,4 @@ pub kept_popped : (parts : List (Bor (List Access))) (front more : ℕ) (own : B
     → more ≡ front + 1 → own ≡ get_or parts front own → StayKept before after → IsKeptIn after own.now
     → AreKeptFrom after parts front
 kept_popped parts front more own before after behind next read stay kept place part from at =
-    elim (cases_eq place front) [
-      | inl same ↦ subst (λ (p : Bor (List Access)). IsKeptIn after p.now)
-          (read ∙ get_or_from_slice_get parts front part own (subst (λ (i : ℕ). slice_get parts i ≡ Some part) same at))
-          kept
-      | inr other ↦ stay part.now (behind place part (omega arith) at)
-    ]
+    grind (arith, cases_eq, get_or_from_slice_get)

@@ -27,5 +27,4 @@ pub all_pushed : {A B : Type 0} (rest : List A → List B) → rest [] ≡ []
     → (items : List A) (i : ℕ) (pushed whole : List B) → length items ≤ i
     → pushed ++ rest (drop i items) ≡ whole → pushed ≡ whole
 all_pushed rest none items i pushed whole le so_far =
-    sym (append-nil pushed)
-    ∙ (ap (λ back. pushed ++ back) (sym none) ∙ rest_pushed rest items i pushed whole le so_far)
+    sym (append-nil pushed) ∙ (ap (λ back. pushed ++ back) (sym none) ∙ rest_pushed rest items i pushed whole le so_far)

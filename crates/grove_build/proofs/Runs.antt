@@ -43,10 +43,7 @@ has_head b y zs e = let P : Bool → Type 0 = λ v. Has (cond v (y ∷ zs) zs) y
 -- what passes is kept
 pub has_filter : {A : Type 0} (p : A → Bool) (xs : List A) (x : A) → Has xs x → p x ≡ true → Has (filter p xs) x
 has_filter p [] x (k, h) e = absurd (none-some x h)
-has_filter {A} p (y ∷ xs) x (zero, h) e =
-    let same : y ≡ x = same_Some y x h in
-    let P : A → Type 0 = λ v. Has (filter p (y ∷ xs)) v in
-    subst P same (has_head (p y) y (filter p xs) (ap p same ∙ e))
+has_filter {A} p (y ∷ xs) x (zero, h) e = grind (arith, has_head, same_Some)
 has_filter p (y ∷ xs) x (suc k, h) e = has_kept (p y) y (filter p xs) x (has_filter p xs x (k, h) e)
 
 filter_step : {A R : Type 0} (b : Bool) (y x : A) (zs : List A) → (b ≡ true → y ≡ x → R) → (Has zs x → R)
@@ -60,8 +57,7 @@ pub has_filter_from : {A : Type 0} (p : A → Bool) (xs : List A) (x : A) → Ha
 has_filter_from p [] x (k, h) = absurd (none-some x h)
 has_filter_from {A} p (y ∷ xs) x h =
     let R : Type 0 = Has (y ∷ xs) x × (p x ≡ true) in
-    filter_step {R = R} (p y) y x (filter p xs)
-    (λ e same. ((zero, ap (λ (v : A). Some v) same), ap p (sym same) ∙ e))
+    filter_step {R = R} (p y) y x (filter p xs) (λ e same. ((zero, ap (λ (v : A). Some v) same), ap p (sym same) ∙ e))
     (λ t. let r = has_filter_from p xs x t in ((suc (r.0).0, (r.0).1), r.1))
     h
 
@@ -89,14 +85,10 @@ abbrev pub itself : ℕ → ℕ
 itself n = n
 
 rises_keep : {S : Type 0} (key : S → ℕ) (f : ℕ → S) (base low high x : ℕ) (zs : List ℕ) (b : Bool)
-    → (b ≡ true → key (f x) ≡ base + x) → low ≤ x
-    → Rises key (base + suc x) (base + high) (map f zs)
+    → (b ≡ true → key (f x) ≡ base + x) → low ≤ x → Rises key (base + suc x) (base + high) (map f zs)
     → Rises key (base + low) (base + high) (map f (cond b (x ∷ zs) zs))
-rises_keep key f base low high x zs true at le h =
-    let e : key (f x) ≡ base + x = at refl in
-    (omega arith, rises_lower key (base + suc x) (suc (key (f x))) (base + high) (map f zs) (omega arith) h)
-rises_keep key f base low high x zs false at le h =
-    rises_lower key (base + suc x) (base + low) (base + high) (map f zs) (omega arith) h
+rises_keep key f base low high x zs true at le h = grind (arith, rises_lower)
+rises_keep key f base low high x zs false at le h = grind (arith, rises_lower)
 
 -- some of rising numbers, as items whose keys are these numbers added to a base
 pub rises_mapped : {S : Type 0} (key : S → ℕ) (f : ℕ → S) (p : ℕ → Bool) (base low high : ℕ) (xs : List ℕ)
@@ -117,46 +109,23 @@ rises_within key low high (y ∷ xs) zero x h g =
   where
     rises_ends : {A : Type 0} (key : A → ℕ) (low high : ℕ) (xs : List A) → Rises key low high xs → low ≤ high
     rises_ends key low high [] h = h
-    rises_ends key low high (x ∷ xs) h = let r : suc (key x) ≤ high = rises_ends key (suc (key x)) high xs h.1 in
-        let l : low ≤ key x = h.0 in omega arith
-rises_within key low high (y ∷ xs) (suc i) x h g =
-    let r = rises_within key (suc (key y)) high xs i x h.1 g in
-    let lo : low ≤ key y = h.0 in
-    let a : suc (key y) ≤ key x = r.0 in
-    (omega arith, r.1)
+    rises_ends key low high (x ∷ xs) h = omega (arith, rises_ends key (suc (key x)) high xs h.1, h.0)
+rises_within key low high (y ∷ xs) (suc i) x h g = grind (arith, rises_within key (suc (key y)) high xs i x h.1 g)
 
 pub rises_order : {A : Type 0} (key : A → ℕ) (low high : ℕ) (xs : List A) (i j : ℕ) (x y : A) → Rises key low high xs
     → slice_get xs i ≡ Some x → slice_get xs j ≡ Some y → i < j → key x < key y
 rises_order key low high [] i j x y h g k lt = absurd (none-some x g)
 rises_order key low high (z ∷ xs) i zero x y h g k lt = absurd (omega arith)
-rises_order key low high (z ∷ xs) zero (suc j) x y h g k lt =
-    let e : key z ≡ key x = ap key (same_Some z x g) in
-    let r = rises_within key (suc (key z)) high xs j y h.1 k in
-    let a : suc (key z) ≤ key y = r.0 in
-    omega arith
+rises_order key low high (z ∷ xs) zero (suc j) x y h g k lt = grind (arith, rises_within, same_Some)
 rises_order key low high (z ∷ xs) (suc i) (suc j) x y h g k lt =
     rises_order key (suc (key z)) high xs i j x y h.1 g k (omega arith)
 
 -- where keys rise, a smaller key stands earlier
 pub rises_place : {A : Type 0} (key : A → ℕ) (low high : ℕ) (xs : List A) (i j : ℕ) (x y : A) → Rises key low high xs
     → slice_get xs i ≡ Some x → slice_get xs j ≡ Some y → key x < key y → i < j
-rises_place key low high xs i j x y h g k lt = elim (cases_order i j) [
-  | inl e ↦ let P : ℕ → Type 0 = λ n. slice_get xs n ≡ Some y in
-      let s : x ≡ y = same_Some x y (sym g ∙ subst P (sym e) k) in
-      let t : key x ≡ key y = ap key s in absurd (omega arith)
-  | inr o ↦ elim o [
-    | inl l ↦ l
-    | inr r ↦ let t : key y < key x = rises_order key low high xs j i y x h k g r in absurd (omega arith)
-  ]
-]
+rises_place key low high xs i j x y h g k lt = grind (arith, cases_order, rises_order, same_Some)
 
 -- and an item stands once
 pub rises_once : {A : Type 0} (key : A → ℕ) (low high : ℕ) (xs : List A) (i j : ℕ) (x : A) → Rises key low high xs
     → slice_get xs i ≡ Some x → slice_get xs j ≡ Some x → i ≡ j
-rises_once key low high xs i j x h g k = elim (cases_order i j) [
-  | inl e ↦ e
-  | inr o ↦ elim o [
-    | inl l ↦ let t : key x < key x = rises_order key low high xs i j x x h g k l in absurd (omega arith)
-    | inr r ↦ let t : key x < key x = rises_order key low high xs j i x x h k g r in absurd (omega arith)
-  ]
-]
+rises_once key low high xs i j x h g k = grind (arith, cases_order, rises_order)

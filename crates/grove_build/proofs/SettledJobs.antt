@@ -1,5 +1,5 @@
 -- Jobs of lists with their settled plans.
-use Rattle.std.proofs.Common.{◌≡◌, ℕ, zero, suc, List, [], ◌∷◌, map, Some, refl, sym, ap, subst, arith}
+use Rattle.std.proofs.Common.{◌≡◌, ℕ, zero, suc, List, [], ◌∷◌, map, Some, refl, sym, subst, arith}
 use Rattle.std.specs.Prelude.{zip, slice_get}
 use Rattle.std.specs.List.{AllZip}
 use Rattle.std.proofs.lemmas.Option.{none-some, same_Some}
@@ -23,8 +23,7 @@ over_lists : (rows : Rows) (lists : List (List Access)) (plans : List (List Step
     → AllZip (IsSettledFor rows) lists plans → map (λ job. job.list) (map job_with (zip lists plans)) ≡ lists
 over_lists rows [] plans all = refl
 over_lists rows (list ∷ lists) [] all = absurd all
-over_lists rows (list ∷ lists) (plan ∷ plans) all =
-    ap (λ (ls : List (List Access)). list ∷ ls) (over_lists rows lists plans all.1)
+over_lists rows (list ∷ lists) (plan ∷ plans) all = grind (arith, over_lists rows lists plans all.1)
 
 each_settled : (rows : Rows) (lists : List (List Access)) (plans : List (List Step))
     → AllZip (IsSettledFor rows) lists plans → (t : ℕ) (job : Job)
@@ -32,9 +31,7 @@ each_settled : (rows : Rows) (lists : List (List Access)) (plans : List (List St
     → IsSettled rows (nodes_of job.list) (lengths_of job.list) job.plan
 each_settled rows [] plans all t job at = absurd (none-some job at)
 each_settled rows (list ∷ lists) [] all t job at = absurd all
-each_settled rows (list ∷ lists) (plan ∷ plans) all zero job at =
-    subst (λ (j : Job). IsSettled rows (nodes_of j.list) (lengths_of j.list) j.plan)
-    (same_Some (job_with (list, plan)) job at) all.0
+each_settled rows (list ∷ lists) (plan ∷ plans) all zero job at = grind (arith, same_Some)
 each_settled rows (list ∷ lists) (plan ∷ plans) all (suc t) job at = each_settled rows lists plans all.1 t job at
 
 -- lists and what is planned for each
@@ -43,8 +40,7 @@ pub settled_are : (rows : Rows) (lists : List (List Access)) (plans : List (List
 settled_are rows lists plans jobs all is = subst (λ (js : List Job). AreSettledJobs rows lists js) (sym is)
     (record { over = over_lists rows lists plans all; settled = each_settled rows lists plans all })
 
-each_legal : (rows : Rows) (jobs : List Job)
-    → ((t : ℕ) (job : Job) → slice_get jobs t ≡ Some job
+each_legal : (rows : Rows) (jobs : List Job) → ((t : ℕ) (job : Job) → slice_get jobs t ≡ Some job
     → IsSettled rows (nodes_of job.list) (lengths_of job.list) job.plan) → AllLegal rows jobs
 each_legal rows [] settled t lt = absurd (omega arith)
 each_legal rows (job ∷ jobs) settled zero lt = (settled 0 job refl).least.legal

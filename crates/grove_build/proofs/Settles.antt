@@ -1,6 +1,8 @@
 -- What the solver and the latest places give for the network of a list's nodes: the settled plan, its certificate and
 -- its cost.
-use Rattle.std.proofs.Common.{◌≡◌, ℕ, zero, suc, ◌+◌, ◌-◌, ◌*◌, ◌≤◌, ◌^◌, ◌⊎◌, ◌&&◌, Bool, true, false, cond, eqb, leb, List, [], ◌∷◌, map, length, Option, Some, None, ℤ, pos, neg_ℤ, refl, sym, ◌∙◌, ap, ap₂, subst, inl, inr, arith, eq-eqb, le-leb, le_trans, lit≤, length-append, mul-zero}
+use Rattle.std.proofs.Common.{◌≡◌, ℕ, zero, suc, ◌+◌, ◌-◌, ◌*◌, ◌≤◌, ◌^◌, ◌&&◌, Bool, true, false, cond, eqb, leb, List}
+use Rattle.std.proofs.Common.{[], ◌∷◌, map, length, Some, None, ℤ, pos, neg_ℤ, refl, sym, ◌∙◌, ap, ap₂, subst, inl, inr}
+use Rattle.std.proofs.Common.{arith, eq-eqb, le-leb, le_trans, lit≤, mul-zero}
 use Rattle.std.specs.Prelude.{slice_index}
 use Rattle.std.specs.List.{slice_get, sum_by, AllZip}
 use Rattle.std.proofs.lemmas.Int.{ints}
@@ -9,9 +11,9 @@ use Rattle.std.proofs.lemmas.Bool.{cases_Bool, and_from, or_left, or_right, cond
 use borrow.Author.Differences.{up}
 use Rattle.grove_tree.specs.Trees.{Rows, parent_of, weight_of}
 use Rattle.grove_tree.specs.Rules.{IsWithinLimits}
-use Rattle.grove_base.specs.Numbers.{sum_below, passing_below, alone}
-use Rattle.grove_base.proofs.Counting.{any_from, sum_same}
-use Rattle.grove_base.proofs.Lists.{get_map, get_map_inv, map_length}
+use Rattle.grove_base.specs.Numbers.{sum_below}
+use Rattle.grove_base.proofs.Counting.{any_from, sum_same, passing_few}
+use Rattle.grove_base.proofs.Lists.{get_map, get_map_inv, map_length, there_or_none}
 use Rattle.grove_tree.proofs.Tests.{is_at_from}
 use Rattle.grove_access.specs.Slots.{slots_before}
 use Rattle.grove_access.specs.Forced.{IsForcedByTree, is_forced, forced_nodes, is_accessed, first_access, last_end}
@@ -19,7 +21,7 @@ use Rattle.grove_plan.specs.declared.step.Step.{Step}
 use Rattle.grove_plan.specs.Plans.{holding, cost}
 use Rattle.grove_plan.specs.Slots.{first_lock_slot, first_release_slot}
 use Rattle.grove_proof.specs.declared.flow.FlowRow.{FlowRow}
-use Rattle.grove_proof.specs.Five.{lock_time, release_time, MeetsFive}
+use Rattle.grove_proof.specs.Five.{MeetsFive}
 use Rattle.grove_proof.specs.Flows.{node_of, is_parent_at, has_parent, is_sign_ok, is_small, AllRows, Balances, IsCertificate}
 use Rattle.grove_proof.proofs.Sums.{sums_same, sums_map, sums_passing}
 use Rattle.grove_proof.proofs.ForcedList.{forced_list_is_by_tree}
@@ -43,22 +45,7 @@ use Rattle.grove_build.proofs.Latest.{latest_are_places}
 use Rattle.grove_build.proofs.Needs.{needs_size, lock_balanced, release_balanced}
 use Rattle.grove_build.proofs.Settling as Settling
 
-cases_option : (o : Option ℕ) → (o ≡ None) ⊎ ((j : ℕ) × (o ≡ Some j))
-cases_option None = inl refl
-cases_option (Some j) = inr (j, refl)
-
 -- sizes
-
-alone_few : (b : Bool) (n : ℕ) → length (alone b n) ≤ 1
-alone_few true n = omega arith
-alone_few false n = omega arith
-
-passing_few : (n : ℕ) (test : ℕ → Bool) → length (passing_below n test) ≤ n
-passing_few zero test = omega arith
-passing_few (suc n) test =
-    let a : length (passing_below n test) ≤ n = passing_few n test in
-    let b : length (alone (test n) n) ≤ 1 = alone_few (test n) n in
-    omega (arith, length-append (passing_below n test) (alone (test n) n))
 
 sum_few : (n : ℕ) (f : ℕ → ℕ) → ((k : ℕ) → f k ≤ 1000) → sum_below n f ≤ n * 1000
 sum_few zero f h = omega arith
@@ -75,10 +62,7 @@ takes_few : (tree : Rows) (rows : List SpanRow) → ((v : ℕ) → weight_of tre
 takes_few tree rows light v =
     pairs_each (λ weight. neg_ℤ (pos weight)) (λ weight. pos weight) (λ z. up z ≤ 1000) (up_pos 0 (omega arith)) (weights_of tree rows)
     (λ k weight h.
-    let r = get_map_inv (λ (row : SpanRow). weight_of tree row.node) rows k weight h in
-    let is : weight_of tree (r.0).node ≡ weight = r.2 in
-    let few : weight_of tree (r.0).node ≤ 1000 = light (r.0).node in
-    (up_neg weight, up_pos weight (omega arith))) v
+    grind (arith, get_map_inv, up_neg, up_pos)) v
 
 small_enough : (a : ℕ) → a ≤ 8193000 → leb a (2 ^ 40) ≡ true
 small_enough a h = let le : 8193000 ≤ 2 ^ 40 = lit≤ tt in le-leb a (2 ^ 40) (le_trans h le)
@@ -93,25 +77,26 @@ difference a b c e = omega arith
 -- no more rows than nodes
 pub rows_few : (tree : Rows) (nodes lengths : List ℕ) (rows : List SpanRow) → IsSpan tree nodes lengths rows → length rows ≤ length tree
 rows_few tree nodes lengths rows is_span =
-    let a : length (map node_of_row rows) ≡ length rows = map_length node_of_row rows in
-    let b : length (map node_of_row rows) ≡ length (forced_nodes tree nodes) = ap length is_span.named in
-    let c : length (forced_nodes tree nodes) ≤ length tree = passing_few (length tree) (is_forced tree nodes) in
-    omega arith
+    omega (
+      arith,
+      map_length node_of_row rows,
+      ap length is_span.named,
+      passing_few (length tree) (is_forced tree nodes),
+    )
 
 module _ (tree : Rows) (nodes lengths : List ℕ) (rows : List SpanRow) (amounts : List ℕ) (flow : List FlowRow)
     (is_span : IsSpan tree nodes lengths rows) (limits : IsWithinLimits tree) (read : IsRead rows amounts flow) (solved : List ℤ)
     (solution : IsSolution (needs_of tree rows) (arcs_from (2 * length rows) 0 rows) amounts solved) where
   pub amounts_few : (i : ℕ) → slice_index amounts i ≤ 8193000
   amounts_few i =
-      let a : slice_index amounts i ≤ sum_below (length (needs_of tree rows)) (takes (needs_of tree rows)) =
-      solution.bounded i in
-      let b : sum_below (length (needs_of tree rows)) (takes (needs_of tree rows))
-      ≤ length (needs_of tree rows) * 1000 =
-      sum_few (length (needs_of tree rows)) (takes (needs_of tree rows)) (takes_few tree rows limits.light) in
-      let c : length (needs_of tree rows) ≡ 2 * length rows + 1 = needs_size tree rows in
-      let d : length rows ≤ length tree = rows_few tree nodes lengths rows is_span in
-      let e : length tree ≤ 4096 = limits.few in
-      omega arith
+      omega (
+        arith,
+        solution.bounded i,
+        sum_few (length (needs_of tree rows)) (takes (needs_of tree rows)) (takes_few tree rows limits.light),
+        needs_size tree rows,
+        rows_few tree nodes lengths rows is_span,
+        limits.few,
+      )
 
   row_at : (i : ℕ) (f : FlowRow) → slice_get flow i ≡ Some f → (row : SpanRow) × (slice_get rows i ≡ Some row) × IsReadRow row f
   row_at i f h = some_right IsReadRow rows flow i f read.each h
@@ -120,7 +105,7 @@ module _ (tree : Rows) (nodes lengths : List ℕ) (rows : List SpanRow) (amounts
   amount_few : (i : ℕ) (f : FlowRow) → slice_get flow i ≡ Some f → (kind : Kind) → amount_of kind f ≤ 8193000
   amount_few i f h kind =
       let r = row_at i f h in
-      elim (cases_option (bound r.0 kind)) [
+      elim (there_or_none (bound r.0 kind)) [
         | inl none ↦ let e : amount_of kind f ≡ 0 = (r.2).none kind none in omega arith
         | inr some ↦
             let l = links_have 0 0 i i rows flow r.0 f kind some.0 (omega arith) r.1 h some.1 in
@@ -145,7 +130,7 @@ module _ (tree : Rows) (nodes lengths : List ℕ) (rows : List SpanRow) (amounts
   signs i f h =
       let r = row_at i f h in
       and_from _ _
-      (elim (cases_option (r.0).parent) [
+      (elim (there_or_none (r.0).parent) [
         | inl none ↦ or_right (has_parent tree flow f) (eqb f.above 0 && eqb f.held 0)
             (none_sent f.above f.held ((r.2).none Above none) ((r.2).none Held none))
         | inr some ↦
@@ -153,8 +138,7 @@ module _ (tree : Rows) (nodes lengths : List ℕ) (rows : List SpanRow) (amounts
             let g = some_left IsReadRow rows flow some.0 p.0 read.each p.1 in
             or_left (has_parent tree flow f) (eqb f.above 0 && eqb f.held 0)
             (any_from (length flow) (λ k. is_parent_at tree f (slice_get flow k)) some.0 (slice_get_within flow some.0 g.0 g.1)
-            (ap (λ o. is_parent_at tree f o) g.1
-            ∙ is_at_from (g.0).node (parent_of tree f.node)
+            (ap (λ o. is_parent_at tree f o) g.1 ∙ is_at_from (g.0).node (parent_of tree f.node)
             (ap (λ n. parent_of tree n) (r.2).node ∙ (p.2 ∙ ap (λ (v : ℕ). Some v) (sym (g.2).node)))))
       ])
       (elim (cases_Bool (is_accessed nodes f.node)) [
@@ -179,10 +163,8 @@ module _ (tree : Rows) (nodes lengths : List ℕ) (rows : List SpanRow) (amounts
     forced = (forced_list_is_by_tree tree nodes (map node_of flow) is_span.is_tree is_span.are_nodes).1
         (same_nodes rows flow read.each ∙ is_span.named);
     signs = signs;
-    locks = λ i f h. let r = row_at i f h in
-        lock_balanced tree nodes lengths rows is_span amounts flow solved read solution i r.0 f r.1 h (r.2).node;
-    releases = λ i f h. let r = row_at i f h in
-        release_balanced tree nodes lengths rows is_span amounts flow solved read solution i r.0 f r.1 h (r.2).node;
+    locks = grind (arith, lock_balanced, row_at);
+    releases = grind (arith, release_balanced, row_at);
   }
 
   module _ (places : List ℤ) (latest : IsLatest (2 * length rows + 1) (arcs_from (2 * length rows) 0 rows) amounts
@@ -215,10 +197,7 @@ module _ (tree : Rows) (nodes lengths : List ℕ) (rows : List SpanRow) (amounts
         let b : first_release_slot plan v ≡ release v =
         Settling.release_is tree nodes lengths is_span.is_tree is_span.are_nodes is_span.are_lengths is_span.paired flow lock release balances small
         are_places v sv in
-        let c : lock_time lengths plan v + holding lengths plan v ≡ release_time lengths plan v = five.holds v sv in
-        let d : lock_time lengths plan v ≡ slots_before lengths (lock v) = ap (slots_before lengths) a in
-        let e : release_time lengths plan v ≡ slots_before lengths (release v) = ap (slots_before lengths) b in
-        difference (slots_before lengths (lock v)) (holding lengths plan v) (slots_before lengths (release v)) (omega arith)
+        grind (arith, difference)
 
     -- the cost, row by row
     pub costs : cost tree lengths plan ≡ sum_by (λ row. weight_of tree row.node * (slots_before lengths (release row.node) - slots_before lengths (lock row.node))) rows

@@ -1,11 +1,12 @@
 -- The plan laid out from the greatest numbers that fit and are tight along a flow that balances is the settled plan,
 -- and the flow certifies its cost.
-use Rattle.std.proofs.Common.{◌≡◌, ℕ, zero, suc, ◌+◌, ◌<◌, ◌≤◌, Bool, true, false, List, [], length, Some, refl, sym, ◌∙◌, ap, subst, inl, inr, arith}
+use Rattle.std.proofs.Common.{◌≡◌, ℕ, zero, suc, ◌+◌, ◌<◌, ◌≤◌, Bool, true, false, List, [], length, Some, refl, sym}
+use Rattle.std.proofs.Common.{◌∙◌, ap, inl, inr, arith}
 use Rattle.std.specs.List.{slice_get}
 use Rattle.std.proofs.lemmas.Option.{same_Some, slice_get_within}
 use Rattle.std.proofs.lemmas.Bool.{cases_Bool}
-use Rattle.grove_tree.specs.Trees.{Rows, parent_of, IsTree}
-use Rattle.grove_base.specs.Numbers.{numbers_below, passing_below, alone}
+use Rattle.grove_tree.specs.Trees.{Rows, IsTree}
+use Rattle.grove_base.specs.Numbers.{passing_below, alone}
 use Rattle.grove_base.proofs.Counting.{count_mono, numbers_length, least_is, last_is}
 use Rattle.grove_base.proofs.Lists.{get_map}
 use Rattle.grove_tree.proofs.Tests.{is_at_true}
@@ -17,11 +18,10 @@ use Rattle.grove_access.proofs.Slots.{slots_tell}
 use Rattle.grove_access.specs.Forced.{IsForcedByTree, is_forced, forced_nodes, names_at, is_accessed, first_access, last_end}
 use Rattle.grove_access.proofs.ForcedByTree.{forced_listed, listed_forced, accessed_is_forced, forced_step}
 use Rattle.grove_plan.specs.declared.step.Step.{Step}
-use Rattle.grove_plan.specs.Plans.{is_access, accesses_of, cost, IsLegal, IsLeast, IsLockedBy}
+use Rattle.grove_plan.specs.Plans.{is_access, cost, IsLegal, IsLeast, IsLockedBy}
 use Rattle.grove_plan.specs.Slots.{accesses_before, first_lock_slot, first_release_slot}
 use Rattle.grove_plan.proofs.Held.{accesses_length}
 use Rattle.grove_proof.specs.declared.flow.FlowRow.{FlowRow}
-use Rattle.grove_proof.specs.Five.{lock_time, release_time}
 use Rattle.grove_proof.specs.Flows.{node_of, is_small, AllRows, gains, losses, Balances, IsCertificate}
 use Rattle.grove_proof.proofs.ForcedList.{forced_is_by_tree, forced_nodes_are_list}
 use Rattle.grove_proof.proofs.FiveConstraints.{KeepsOrder, keeps_order, legal_meets_five}
@@ -43,8 +43,7 @@ alone_rises false n = omega arith
 -- the numbers that pass rise
 pub passing_rise : (n : ℕ) (test : ℕ → Bool) → Rises itself 0 n (passing_below n test)
 passing_rise zero test = omega arith
-passing_rise (suc n) test = rises_append itself 0 n (suc n) (passing_below n test) (alone (test n) n)
-    (passing_rise n test) (alone_rises (test n) n)
+passing_rise (suc n) test = grind (arith, alone_rises, itself, rises_append, passing_rise n test)
 
 -- the slots of a legal plan fit
 pub slots_fit : (rows : Rows) (nodes : List ℕ) (plan : List Step) → IsTree rows → IsLegal rows nodes plan
@@ -64,10 +63,7 @@ slots_fit rows nodes plan tree legal =
           let a : first_release_slot plan v ≡ accesses_before plan u.0 = u.2 in
           let b : accesses_before plan u.0 ≤ accesses_before plan (length plan) =
           count_mono u.0 (length plan) (λ k. is_access (slice_get plan k)) (omega arith) in
-          let c : length (accesses_of plan) ≡ accesses_before plan (length plan) = accesses_length plan in
-          let d : length (accesses_of plan) ≡ length (numbers_below (length nodes)) = ap length legal.performs.in_order in
-          let e : length (numbers_below (length nodes)) ≡ length nodes = numbers_length (length nodes) in
-          omega arith;
+          omega (arith, accesses_length plan, ap length legal.performs.in_order, numbers_length (length nodes));
     }
 
 module _ (rows : Rows) (nodes lengths : List ℕ) (is_tree : IsTree rows) (are_nodes : AreNodes rows nodes)
@@ -127,24 +123,12 @@ module _ (rows : Rows) (nodes lengths : List ℕ) (is_tree : IsTree rows) (are_n
     laid_is_tight : IsTight rows nodes lengths flow plan
     laid_is_tight = record {
       above = λ i row parent h up some. elim (parent_row rows flow row) [
-        | inl over ↦
-            let e : over.1.node ≡ parent =
-            same_Some over.1.node parent (sym (is_at_true over.1.node (parent_of rows row.node) over.3) ∙ up) in
-            let P : ℕ → Type 0 = λ p. lock_time lengths plan p ≡ lock_time lengths plan row.node in
-            subst P e (ap (slots_before lengths) (lock_is over.1.node (flow_spanned over.0 over.1 over.2)
-            ∙ (places.tight.above i over.0 row over.1 h over.2 over.3 some
-            ∙ sym (lock_is row.node (flow_spanned i row h)))))
+        | inl over ↦ grind (arith, flow_spanned, is_at_true, lock_is, same_Some)
         | inr none ↦ let z = ((has_signs rows nodes flow row (balances.signs i row h)).top none).0 in
             absurd (omega arith)
       ];
       held = λ i row parent h up some. elim (parent_row rows flow row) [
-        | inl over ↦
-            let e : over.1.node ≡ parent =
-            same_Some over.1.node parent (sym (is_at_true over.1.node (parent_of rows row.node) over.3) ∙ up) in
-            let P : ℕ → Type 0 = λ p. lock_time lengths plan row.node ≡ release_time lengths plan p in
-            subst P e (ap (slots_before lengths) (lock_is row.node (flow_spanned i row h)
-            ∙ (places.tight.held i over.0 row over.1 h over.2 over.3 some
-            ∙ sym (release_is over.1.node (flow_spanned over.0 over.1 over.2)))))
+        | inl over ↦ grind (arith, flow_spanned, is_at_true, lock_is, release_is, same_Some)
         | inr none ↦ let z = ((has_signs rows nodes flow row (balances.signs i row h)).top none).1 in
             absurd (omega arith)
       ];
@@ -159,13 +143,11 @@ module _ (rows : Rows) (nodes lengths : List ℕ) (is_tree : IsTree rows) (are_n
         | inr none ↦ let z = ((has_signs rows nodes flow row (balances.signs i row h)).unaccessed none).1 in
             absurd (omega arith)
       ];
-      own = λ i row h some. ap (slots_before lengths) (lock_is row.node (flow_spanned i row h)
-          ∙ (places.tight.own i row h some ∙ sym (release_is row.node (flow_spanned i row h))));
+      own = grind (arith, flow_spanned, lock_is, release_is);
     }
 
     pub certificate : IsCertificate rows nodes lengths flow (cost rows lengths plan)
-    certificate = tight_is_certified rows nodes lengths flow plan is_tree are_nodes legal balances small
-        (λ i v h. locks_spanned v (i, h)) laid_is_tight
+    certificate = grind (arith, laid_is_tight, legal, locks_spanned, tight_is_certified)
 
     pub least : IsLeast rows nodes lengths plan
     least = certified_is_least rows nodes lengths flow plan is_tree are_nodes legal certificate
@@ -182,8 +164,7 @@ module _ (rows : Rows) (nodes lengths : List ℕ) (is_tree : IsTree rows) (are_n
         let t = cheap_is_tight rows nodes lengths flow other is_tree are_nodes balances o.legal (omega arith) in
         let fits : Fits rows nodes (first_lock_slot other) (first_release_slot other) = slots_fit rows nodes other is_tree o.legal in
         let low : (v : ℕ) → IsForcedByTree rows nodes v → first_lock_slot other v ≤ m = λ v sv.
-        let own : first_lock_slot other v ≤ first_release_slot other v = fits.own v sv in
-        let top : first_release_slot other v ≤ m = fits.top v sv in omega arith in
+        omega (arith, fits.own v sv, fits.top v sv) in
         record {
           above = λ i j row parent g h child some. same_slots _ _ (low parent.node (flow_spanned j parent h)) (low row.node (flow_spanned i row g))
               (t.above i j row parent g h child some);
@@ -220,6 +201,5 @@ module _ (rows : Rows) (nodes lengths : List ℕ) (is_tree : IsTree rows) (are_n
           let b : first_release_slot plan v ≡ release v = release_is v sv in omega arith;
       list = span;
       is_forced_list = forced_nodes_are_list rows nodes is_tree are_nodes;
-      laid = laid_alike rows span lock release (first_lock_slot plan) (first_release_slot plan) (λ v h. sym (lock_is v (got v h)))
-          (λ v h. sym (release_is v (got v h))) m;
+      laid = grind (arith, got, laid_alike, lock_is, release_is);
     }

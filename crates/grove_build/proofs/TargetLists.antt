@@ -1,5 +1,5 @@
 -- The targets of lists: their nodes and their lengths, and when two lists of targets are the same.
-use Rattle.std.proofs.Common.{◌≡◌, ℕ, Bool, true, ◌&&◌, nat_eq, List, [], ◌∷◌, map, refl, ap, ap₂}
+use Rattle.std.proofs.Common.{◌≡◌, ℕ, Bool, true, ◌&&◌, nat_eq, List, [], ◌∷◌, map, refl, arith}
 use Rattle.std.specs.Bool.{Decides}
 use Rattle.std.specs.Cmp.Lexicographic.{pointwise}
 use Rattle.std.proofs.lemmas.Bool.{and_parts, and_from}
@@ -25,18 +25,8 @@ targets_from targets = (map (λ (target : Target). target.node) targets, map (λ
 abbrev pub is_same : Target → Target → Bool
 is_same a b = nat_eq a.node b.node && nat_eq a.length b.length
 
-abbrev made : ℕ → ℕ → Target
-made node length = record { node = node; length = length }
-
 decides : (a b : Target) → Decides (is_same a b) (a ≡ b)
-decides a b = (
-  λ test.
-      let (node, length) = and_parts (nat_eq a.node b.node) (nat_eq a.length b.length) test in
-      ap₂ made ((Decides-eqb a.node b.node).0 node) ((Decides-eqb a.length b.length).0 length),
-  λ same.
-      and_from (nat_eq a.node b.node) (nat_eq a.length b.length) ((Decides-eqb a.node b.node).1 (ap (λ (t : Target). t.node) same))
-      ((Decides-eqb a.length b.length).1 (ap (λ (t : Target). t.length) same)),
-)
+decides a b = grind (arith, Decides-eqb, and_from, and_parts)
 
 -- lists of targets that compare as equal are the same
 pub same_targets : (xs ys : List Target) → pointwise is_same xs ys ≡ true → xs ≡ ys
@@ -52,7 +42,4 @@ pub targets_alike : (xs ys : List Target) → map (λ (t : Target). t.node) xs �
 targets_alike [] [] nodes lengths = refl
 targets_alike [] (y ∷ ys) nodes lengths = cc
 targets_alike (x ∷ xs) [] nodes lengths = cc
-targets_alike (x ∷ xs) (y ∷ ys) nodes lengths =
-    let node : x.node ≡ y.node = cc in
-    let slots : x.length ≡ y.length = cc in
-    ap₂ (λ (t : Target) (ts : List Target). t ∷ ts) (ap₂ made node slots) (targets_alike xs ys (cc) (cc))
+targets_alike (x ∷ xs) (y ∷ ys) nodes lengths = grind (arith, targets_alike xs ys (cc) (cc))

@@ -1,12 +1,11 @@
-use Rattle.std.proofs.Common.{length, refl}
+use Rattle.std.proofs.Common.{refl, arith}
 use Rattle.std.proofs.lemmas.Option.{slice_get_read}
 use Rattle.grove_build.specs.Networks.{row_arcs, arcs_from}
 use Rattle.grove_build.proofs.Pushes.{pieces_more, all_pushed}
 use Rattle.grove_build.proofs.network.network_of.Goals as goal
 
 pub push_row-requires-clause-bounds : goal.push_row-requires-clause-bounds
-push_row-requires-clause-bounds c = c.requires.bounds c.loop-k.k c.index-rows-k.result
-    (slice_get_read c.args.rows.now (length c.args.rows.now) c.loop-k.k c.index-rows-k.result refl c.loop-k-test.true c.index-rows-k.is)
+push_row-requires-clause-bounds c = grind (arith, slice_get_read)
 
 pub loop-k-preserved : goal.loop-k-preserved
 loop-k-preserved c =

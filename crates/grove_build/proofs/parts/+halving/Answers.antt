@@ -5,14 +5,10 @@ use Rattle.grove_build.proofs.Batched.{AllZip-halves}
 use Rattle.grove_build.proofs.parts.+halving.Goals as goal
 
 pub join+arg2-plan_parts-requires : goal.join+arg2-plan_parts-requires
-join+arg2-plan_parts-requires g t c κs within =
-    let (sync_R, sync_G, room, size, fit) = c.requires in
-    (search rules, (within.0, (within.1, (sync_R, (sync_G, (omega arith, fit))))))
+join+arg2-plan_parts-requires g t c κs within = grind (arith)
 
 pub join+arg3-plan_parts-requires : goal.join+arg3-plan_parts-requires
-join+arg3-plan_parts-requires g t c κs within =
-    let (sync_R, sync_G, room, fit) = c.requires in
-    (search rules, (within.0, (within.1, (sync_R, (sync_G, (room, fit))))))
+join+arg3-plan_parts-requires g t c κs within = grind (arith)
 
 pub returns : goal.returns
 returns g t c =

@@ -1,4 +1,4 @@
-use Rattle.std.proofs.Common.{◌≡◌, List, map, sym, ◌∙◌, subst}
+use Rattle.std.proofs.Common.{◌≡◌, List, map, sym, ◌∙◌, subst, arith}
 use Rattle.std.proofs.lemmas.Result.{IfOk-weaker}
 use Rattle.grove_tree.specs.Trees.{Rows, IsTree}
 use Rattle.grove_access.specs.declared.access.Access.{Access}
@@ -29,18 +29,10 @@ span_is tree list rows lent is_tree are_nodes named parents accesses are_lengths
     }
 
 pub plan_rows-requires-clause-span : goal.plan_rows-requires-clause-span
-plan_rows-requires-clause-span c =
-    span_is c.args.tree.now c.args.list.now c.in_ok-rows.rows.items c.deref.result.now c.len-nodes.ensures.tree
-    c.requires.fits c.in_ok-rows.ensures.nodes
-    c.in_ok-rows.ensures.parents c.in_ok-rows.ensures.accesses c.len-accesses.ensures.lengths c.deref.ensures.value
+plan_rows-requires-clause-span c = grind (arith, span_is)
 
 pub plan_rows-requires-clause-weights : goal.plan_rows-requires-clause-weights
 plan_rows-requires-clause-weights c = rw c.deref.ensures.value c.in_ok-rows.ensures.weights
 
 pub returns : goal.returns
-returns c = record {
-  settled = IfOk-weaker c.plan_rows.result _ _ (λ planned is. is.settled) c.plan_rows.ensures;
-  least = IfOk-weaker c.plan_rows.result _ _ (λ planned is. is.least) c.plan_rows.ensures;
-  cost = IfOk-weaker c.plan_rows.result _ _ (λ planned is. is.priced) c.plan_rows.ensures;
-  certificate = IfOk-weaker c.plan_rows.result _ _ (λ planned is. is.certificate) c.plan_rows.ensures;
-}
+returns c = grind (arith, IfOk-weaker)

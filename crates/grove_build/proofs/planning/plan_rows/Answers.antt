@@ -1,4 +1,4 @@
-use Rattle.std.proofs.Common.{◌≡◌, suc, List, [], ◌∷◌, map, refl, ◌∙◌}
+use Rattle.std.proofs.Common.{◌≡◌, suc, List, [], ◌∷◌, map, refl, arith}
 use Rattle.grove_tree.specs.Trees.{Rows, weight_of}
 use Rattle.grove_access.proofs.Lists.{nodes_length}
 use Rattle.grove_span.specs.declared.row.SpanRow.{SpanRow}
@@ -15,15 +15,13 @@ weights_same tree (row ∷ rows) have =
     rw (own, weights_same tree rows (λ i. have (suc i))) refl
 
 pub solve_rows-requires-clause-weights : goal.solve_rows-requires-clause-weights
-solve_rows-requires-clause-weights c = c.deref.ensures.value
-    ∙ (c.in_ok-weights.ensures ∙ weights_same c.args.tree.now c.args.rows.now c.requires.weights)
+solve_rows-requires-clause-weights c = grind (arith, weights_same)
 
 pub solve_rows-requires-clause-slots : goal.solve_rows-requires-clause-slots
 solve_rows-requires-clause-slots c = rw (c.deref-2.ensures.value, nodes_length c.args.list.now) c.in_ok-slots.ensures
 
 pub settle-requires-clause-weights : goal.settle-requires-clause-weights
-settle-requires-clause-weights c = c.deref-3.ensures.value
-    ∙ (c.in_ok-weights.ensures ∙ weights_same c.args.tree.now c.args.rows.now c.requires.weights)
+settle-requires-clause-weights c = grind (arith, weights_same)
 
 pub settle-requires-clause-slots : goal.settle-requires-clause-slots
 settle-requires-clause-slots c = rw (c.deref-4.ensures.value, nodes_length c.args.list.now) c.in_ok-slots.ensures

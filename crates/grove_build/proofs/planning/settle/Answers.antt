@@ -1,4 +1,4 @@
-use Rattle.std.proofs.Common.{◌≡◌, ℕ, ◌*◌, ◌+◌, ◌≤◌, ◌<◌, ◌++◌, List, length, false, ap, ap₂, sym, ◌∙◌, subst, arith, get_or}
+use Rattle.std.proofs.Common.{◌≡◌, ℕ, ◌<◌, ◌++◌, List, length, false, ap, ap₂, sym, ◌∙◌, subst, arith, get_or}
 use Rattle.std.proofs.lemmas.Slice.Zip.{AllZip-long}
 use Rattle.grove_base.proofs.Lists.{map_length}
 use Rattle.grove_tree.specs.Trees.{weight_of}
@@ -9,43 +9,31 @@ use Rattle.grove_proof.specs.declared.flow.FlowRow.{FlowRow}
 use Rattle.grove_proof.specs.Flows.{IsCertificate}
 use Rattle.grove_span.specs.declared.row.SpanRow.{SpanRow}
 use Rattle.grove_build.specs.Settled.{IsSettled}
-use Rattle.grove_build.specs.Networks.{weights_of, IsReadRow, AreRowsOf}
+use Rattle.grove_build.specs.Networks.{weights_of}
 use Rattle.grove_build.specs.Stays.{is_needed, stays_from, rows_cost, stay_steps, stay_steps_below}
-use Rattle.grove_build.proofs.Asked.{nodes_length, nodes_few, rows_of_span, weights_few, slots_few_each}
+use Rattle.grove_build.proofs.Asked.{nodes_few, rows_of_span, weights_few, slots_few_each}
 use Rattle.grove_build.proofs.Answered.{gaps_size, gaps_within, gaps_fit, stays_within, steps_settle, steps_certified, steps_cost, steps_few, stays_length}
 use Rattle.grove_build.proofs.Links.{arcs_size}
+use Rattle.grove_access.proofs.Lists.{nodes_length}
 use Rattle.grove_build.proofs.planning.settle.Goals as goal
 
 pub needed_of-requires-clause-few : goal.needed_of-requires-clause-few
-needed_of-requires-clause-few c =
-    let of : AreRowsOf c.args.tree.now c.args.rows.now = rows_of_span c.args.tree.now (nodes_of c.args.list.now) (lengths_of c.args.list.now) c.args.rows.now c.requires.span c.len-nodes.ensures.limits (nodes_few c.args.list.now c.len-accesses.ensures.few) in
-    of.few
+needed_of-requires-clause-few c = grind (arith, nodes_few, rows_of_span)
 
 pub needed_of-requires-clause-parents : goal.needed_of-requires-clause-parents
-needed_of-requires-clause-parents c =
-    let of : AreRowsOf c.args.tree.now c.args.rows.now = rows_of_span c.args.tree.now (nodes_of c.args.list.now) (lengths_of c.args.list.now) c.args.rows.now c.requires.span c.len-nodes.ensures.limits (nodes_few c.args.list.now c.len-accesses.ensures.few) in
-    of.parents
+needed_of-requires-clause-parents c = grind (arith, nodes_few, rows_of_span)
 
 pub needed_of-requires-clause-gaps : goal.needed_of-requires-clause-gaps
-needed_of-requires-clause-gaps c =
-    ap length c.deref.ensures.value ∙ gaps_size c.args.tree.now (nodes_of c.args.list.now) (lengths_of c.args.list.now) c.args.rows.now c.args.solved.now.amounts.items c.args.solved.now.gaps.items c.requires.span c.requires.solved (nodes_few c.args.list.now c.len-accesses.ensures.few)
+needed_of-requires-clause-gaps c = grind (arith, gaps_size, nodes_few)
 
 pub stays_of-requires-clause-few : goal.stays_of-requires-clause-few
-stays_of-requires-clause-few c =
-    let of : AreRowsOf c.args.tree.now c.args.rows.now = rows_of_span c.args.tree.now (nodes_of c.args.list.now) (lengths_of c.args.list.now) c.args.rows.now c.requires.span c.len-nodes.ensures.limits (nodes_few c.args.list.now c.len-accesses.ensures.few) in
-    of.few
+stays_of-requires-clause-few c = grind (arith, nodes_few, rows_of_span)
 
 pub stays_of-requires-clause-gaps : goal.stays_of-requires-clause-gaps
-stays_of-requires-clause-gaps c =
-    ap length c.deref-2.ensures.value ∙ gaps_size c.args.tree.now (nodes_of c.args.list.now) (lengths_of c.args.list.now) c.args.rows.now c.args.solved.now.amounts.items c.args.solved.now.gaps.items c.requires.span c.requires.solved (nodes_few c.args.list.now c.len-accesses.ensures.few)
+stays_of-requires-clause-gaps c = grind (arith, gaps_size, nodes_few)
 
 pub lay_out-requires-clause-few : goal.lay_out-requires-clause-few
-lay_out-requires-clause-few c =
-    let of : AreRowsOf c.args.tree.now c.args.rows.now = rows_of_span c.args.tree.now (nodes_of c.args.list.now) (lengths_of c.args.list.now) c.args.rows.now c.requires.span c.len-nodes.ensures.limits (nodes_few c.args.list.now c.len-accesses.ensures.few) in
-    let stays : c.deref-4.result.now ≡ stays_from c.args.solved.now.gaps.items c.in_ok-needed.needed.items 0 c.args.rows.now =
-    c.deref-4.ensures.value ∙ (c.in_ok-stays.ensures ∙ ap₂ (λ g n. stays_from g n 0 c.args.rows.now) c.deref-2.ensures.value c.deref-3.ensures.value) in
-    let many : length c.deref-4.result.now ≡ length c.args.rows.now = ap length stays ∙ stays_length c.args.solved.now.gaps.items c.in_ok-needed.needed.items 0 c.args.rows.now in
-    let most : length c.args.rows.now ≤ 4096 = of.few in omega arith
+lay_out-requires-clause-few c = grind (arith, nodes_few, rows_of_span, stays_length)
 
 pub lay_out-requires-clause-within : goal.lay_out-requires-clause-within
 lay_out-requires-clause-within c =
@@ -55,27 +43,19 @@ lay_out-requires-clause-within c =
     rw (stays, number) (stays_within c.args.tree.now (nodes_of c.args.list.now) (lengths_of c.args.list.now) c.args.rows.now c.args.solved.now.amounts.items c.args.solved.now.gaps.items c.requires.span c.requires.solved (nodes_few c.args.list.now c.len-accesses.ensures.few) c.in_ok-needed.needed.items)
 
 pub flow_rows-requires : goal.flow_rows-requires
-flow_rows-requires c = ap length c.deref-5.ensures.value
-    ∙ (c.requires.solved.solution.amounts_size ∙ arcs_size (2 * length c.args.rows.now) 0 c.args.rows.now)
+flow_rows-requires c = grind (arith, arcs_size)
 
 pub cost_of-cost-requires-clause-few : goal.cost_of-cost-requires-clause-few
-cost_of-cost-requires-clause-few c =
-    let of : AreRowsOf c.args.tree.now c.args.rows.now = rows_of_span c.args.tree.now (nodes_of c.args.list.now) (lengths_of c.args.list.now) c.args.rows.now c.requires.span c.len-nodes.ensures.limits (nodes_few c.args.list.now c.len-accesses.ensures.few) in
-    let many : length c.args.weights.now ≡ length c.args.rows.now = ap length c.requires.weights ∙ map_length (λ (row : SpanRow). weight_of c.args.tree.now row.node) c.args.rows.now in
-    let most : length c.args.rows.now ≤ 4096 = of.few in omega arith
+cost_of-cost-requires-clause-few c = grind (arith, map_length, nodes_few, rows_of_span)
 
 pub cost_of-cost-requires-clause-light : goal.cost_of-cost-requires-clause-light
-cost_of-cost-requires-clause-light c =
-    λ k. rw c.requires.weights (weights_few c.args.tree.now c.args.rows.now c.len-nodes.ensures.limits k)
+cost_of-cost-requires-clause-light c = grind (arith, weights_few)
 
 pub cost_of-cost-requires-clause-gaps : goal.cost_of-cost-requires-clause-gaps
-cost_of-cost-requires-clause-gaps c =
-    let many : length c.args.weights.now ≡ length c.args.rows.now = ap length c.requires.weights ∙ map_length (λ (row : SpanRow). weight_of c.args.tree.now row.node) c.args.rows.now in
-    ap length c.deref-6.ensures.value ∙ (gaps_size c.args.tree.now (nodes_of c.args.list.now) (lengths_of c.args.list.now) c.args.rows.now c.args.solved.now.amounts.items c.args.solved.now.gaps.items c.requires.span c.requires.solved (nodes_few c.args.list.now c.len-accesses.ensures.few) ∙ ap (λ n. 2 * n + 1) (sym many))
+cost_of-cost-requires-clause-gaps c = grind (arith, gaps_size, map_length, nodes_few)
 
 pub cost_of-cost-requires-clause-within : goal.cost_of-cost-requires-clause-within
-cost_of-cost-requires-clause-within c =
-    rw c.deref-6.ensures.value (λ v lt. gaps_within c.args.tree.now (nodes_of c.args.list.now) (lengths_of c.args.list.now) c.args.rows.now c.args.solved.now.amounts.items c.args.solved.now.gaps.items c.requires.span c.requires.solved (nodes_few c.args.list.now c.len-accesses.ensures.few) c.args.slots.now c.requires.slots v lt)
+cost_of-cost-requires-clause-within c = grind (arith, gaps_within, nodes_few)
 
 pub cost_of-cost-requires-clause-own : goal.cost_of-cost-requires-clause-own
 cost_of-cost-requires-clause-own c =
@@ -87,27 +67,10 @@ cost_of-cost-requires-clause-end c =
     λ gap. slots_few_each (lengths_of c.args.list.now) c.args.slots.now (length (nodes_of c.args.list.now)) c.requires.span.are_lengths c.requires.slots (nodes_few c.args.list.now c.len-accesses.ensures.few) gap
 
 pub new-requires : goal.new-requires
-new-requires c =
-    let of : AreRowsOf c.args.tree.now c.args.rows.now = rows_of_span c.args.tree.now (nodes_of c.args.list.now) (lengths_of c.args.list.now) c.args.rows.now c.requires.span c.len-nodes.ensures.limits (nodes_few c.args.list.now c.len-accesses.ensures.few) in
-    let stays : c.in_ok-stays.stays.items ≡ stays_from c.args.solved.now.gaps.items c.in_ok-needed.needed.items 0 c.args.rows.now =
-    c.in_ok-stays.ensures ∙ ap₂ (λ g n. stays_from g n 0 c.args.rows.now) c.deref-2.ensures.value c.deref-3.ensures.value in
-    let number : c.len-accesses.result ≡ length (nodes_of c.args.list.now) = c.len-accesses.ensures.number ∙ sym (nodes_length c.args.list.now) in
-    let laid : c.in_ok-steps.steps.items ≡ stay_steps_below (stays_from c.args.solved.now.gaps.items c.in_ok-needed.needed.items 0 c.args.rows.now) (length (nodes_of c.args.list.now)) ++ stay_steps (stays_from c.args.solved.now.gaps.items c.in_ok-needed.needed.items 0 c.args.rows.now) (length (nodes_of c.args.list.now)) =
-    c.in_ok-steps.ensures ∙ ap₂ (λ s n. stay_steps_below s n ++ stay_steps s n) (c.deref-4.ensures.value ∙ stays) number in
-    let most : length c.args.rows.now ≤ 4096 = of.few in
-    let n = stays_length c.args.solved.now.gaps.items c.in_ok-needed.needed.items 0 c.args.rows.now in
-    let bound = steps_few (stays_from c.args.solved.now.gaps.items c.in_ok-needed.needed.items 0 c.args.rows.now) (length (nodes_of c.args.list.now)) (omega arith) (nodes_few c.args.list.now c.len-accesses.ensures.few) in
-    let long = ap length laid in
-    let len : c.in_ok-steps.steps.len ≡ length c.in_ok-steps.steps.items = c.in_ok-steps.steps.ok.0 in
-    omega arith
+new-requires c = grind (arith, nodes_few, nodes_length, rows_of_span, stays_length, steps_few)
 
 pub new-requires-2 : goal.new-requires-2
-new-requires-2 c =
-    let of : AreRowsOf c.args.tree.now c.args.rows.now = rows_of_span c.args.tree.now (nodes_of c.args.list.now) (lengths_of c.args.list.now) c.args.rows.now c.requires.span c.len-nodes.ensures.limits (nodes_few c.args.list.now c.len-accesses.ensures.few) in
-    let most : length c.args.rows.now ≤ 4096 = of.few in
-    let n : length c.in_ok-flow.flow.items ≡ length c.args.rows.now = AllZip-long IsReadRow c.args.rows.now c.in_ok-flow.flow.items c.in_ok-flow.ensures.each in
-    let len : c.in_ok-flow.flow.len ≡ length c.in_ok-flow.flow.items = c.in_ok-flow.flow.ok.0 in
-    omega arith
+new-requires-2 c = grind (arith, AllZip-long, nodes_few, rows_of_span)
 
 pub returns : goal.returns
 returns c =

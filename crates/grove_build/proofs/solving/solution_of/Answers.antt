@@ -1,7 +1,5 @@
-use Rattle.std.proofs.Common.{◌≡◌, length, ◌∙◌, ap}
+use Rattle.std.proofs.Common.{arith}
 use Rattle.grove_access.specs.Lists.{nodes_of, lengths_of}
-use Rattle.grove_access.specs.Slots.{slots_before}
-use Rattle.grove_build.specs.Networks.{start_of}
 use Rattle.grove_build.proofs.Asked.{nodes_few, end_slots, is_network, is_start}
 use Rattle.grove_build.proofs.solving.solution_of.Goals as goal
 
@@ -13,16 +11,7 @@ is_solution-requires c =
     }
 
 pub solve-requires-clause-network : goal.solve-requires-clause-network
-solve-requires-clause-network c =
-    rw (c.requires.needs, c.requires.arcs)
-    (is_network c.args.tree.now (nodes_of c.args.list.now) (lengths_of c.args.list.now) c.args.rows.now c.requires.span c.len-nodes.ensures.limits
-    (nodes_few c.args.list.now c.len-accesses.ensures.few))
+solve-requires-clause-network c = grind (arith, is_network, nodes_few)
 
 pub solve-requires-clause-start : goal.solve-requires-clause-start
-solve-requires-clause-start c =
-    let begin : c.deref-3.result.now ≡ start_of (slots_before (lengths_of c.args.list.now) (length (nodes_of c.args.list.now))) c.args.rows.now =
-    c.deref-3.ensures.value
-    ∙ (c.in_ok-start.ensures ∙ ap (λ n. start_of n c.args.rows.now) (end_slots (lengths_of c.args.list.now) c.args.slots.now (length (nodes_of c.args.list.now)) c.requires.slots)) in
-    rw (c.requires.needs, c.requires.arcs, begin)
-    (is_start c.args.tree.now (nodes_of c.args.list.now) (lengths_of c.args.list.now) c.args.rows.now c.requires.span c.len-nodes.ensures.limits
-    (nodes_few c.args.list.now c.len-accesses.ensures.few))
+solve-requires-clause-start c = grind (arith, end_slots, is_start, nodes_few)

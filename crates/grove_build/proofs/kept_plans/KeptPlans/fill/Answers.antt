@@ -1,6 +1,5 @@
 use Rattle.std.proofs.Common.{arith}
 use Rattle.std.proofs.lemmas.Slice.Zip.{AllZip-long}
-use Rattle.grove_build.specs.Batches.{IsPlanned}
 use Rattle.grove_build.proofs.Missing.{among_fit}
 use Rattle.grove_build.proofs.Filled.{all_kept}
 use Rattle.grove_build.proofs.kept_plans.KeptPlans.fill.Goals as goal
@@ -12,10 +11,7 @@ plan_parts-requires-clause-fit g c κs within =
     c.requires.fit)
 
 pub keep_each-requires-clause-each : goal.keep_each-requires-clause-each
-keep_each-requires-clause-each g c =
-    let long = AllZip-long (λ part planned. IsPlanned c.args.tree.now part.now planned) c.in_ok-missing.missing.items
-    c.in_ok-planned.planned.items (rw c.deref.ensures.value at c.in_ok-planned.ensures) in
-    rw c.deref-2.ensures.value (omega arith)
+keep_each-requires-clause-each g c = grind (arith, AllZip-long)
 
 pub keep_each-requires-clause-room : goal.keep_each-requires-clause-room
 keep_each-requires-clause-room g c = rw c.deref-2.ensures.value c.in_ok-missing.ensures.room
@@ -27,10 +23,7 @@ pub returns-in_err-planned-clause-settled : goal.returns-in_err-planned-clause-s
 returns-in_err-planned-clause-settled g c = c.missing_with_room.ensures.settled c.args.tree.now c.requires.settled
 
 pub returns-clause-complete : goal.returns-clause-complete
-returns-clause-complete g c =
-    all_kept c.keep_each.result c.missing_with_room.new.self c.keep_each.new.self c.args.lists.now
-    c.in_ok-missing.missing.items c.in_ok-missing.ensures.missing
-    c.keep_each.ensures.stay (rw c.deref-2.ensures.value at c.keep_each.ensures.kept)
+returns-clause-complete g c = grind (arith, all_kept)
 
 pub returns-clause-settled : goal.returns-clause-settled
 returns-clause-settled g c =

@@ -2,13 +2,10 @@ use Rattle.std.proofs.lemmas.Result.{IfOk-weaker}
 use Rattle.grove_build.specs.Keeping.{AreTargetsOf}
 use Rattle.grove_build.proofs.Keeping.{kept_planned, settled_added}
 use Rattle.grove_build.proofs.kept_plans.KeptPlans.place.Goals as goal
+use Rattle.std.proofs.Common.{arith}
 
 pub returns-clause-stands : goal.returns-clause-stands
-returns-clause-stands c =
-    IfOk-weaker c.keep.result _ _
-    (λ place stands. stands c.args.list.now
-    record { nodes = c.in_ok-targets.ensures.nodes; lengths = c.in_ok-targets.ensures.lengths })
-    c.keep.ensures.stands
+returns-clause-stands c = grind (arith, IfOk-weaker)
 
 pub returns-clause-settled : goal.returns-clause-settled
 returns-clause-settled c =
