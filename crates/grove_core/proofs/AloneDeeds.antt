@@ -32,11 +32,9 @@ more_deeds jobs past t begun (suc n) le =
     ap (λ (ds : List Deed). ds ++ deed_of t (list_of jobs t) (next_step jobs (steps_more t n past) t))
     (more_deeds jobs past t begun n (omega arith))
     ∙ append_assoc (deeds jobs past) (did t (list_of jobs t) (take n (plan_of jobs t)))
-    (deed_of t (list_of jobs t) (next_step jobs (steps_more t n past) t))
-    ∙ ap (λ (o : Option Step). deeds jobs
+    (deed_of t (list_of jobs t) (next_step jobs (steps_more t n past) t)) ∙ ap (λ (o : Option Step). deeds jobs
     past ++ (did t (list_of jobs t) (take n (plan_of jobs t)) ++ deed_of t (list_of jobs t) o))
-    (ap (λ (i : ℕ). slice_get (plan_of jobs t) i) at ∙ there.1)
-    ∙ ap (λ (ds : List Deed). deeds jobs past ++ ds)
+    (ap (λ (i : ℕ). slice_get (plan_of jobs t) i) at ∙ there.1) ∙ ap (λ (ds : List Deed). deeds jobs past ++ ds)
     (sym (did_last t (list_of jobs t) (take n (plan_of jobs t)) there.0)
     ∙ ap (did t (list_of jobs t)) (sym (take_next (plan_of jobs t) n there.0 there.1)))
 
@@ -44,9 +42,7 @@ more_deeds jobs past t begun (suc n) le =
 whole_last : (lists : ℕ → List Access) (order : List ℕ) (t : ℕ)
     → whole lists (order ++ t ∷ []) ≡ whole lists order ++ stamped t (lists t)
 whole_last lists [] t = append-nil (stamped t (lists t))
-whole_last lists (u ∷ order) t =
-    ap (λ (ds : List Deed). stamped u (lists u) ++ ds) (whole_last lists order t)
-    ∙ sym (append_assoc (stamped u (lists u)) (whole lists order) (stamped t (lists t)))
+whole_last lists (u ∷ order) t = grind (arith, append_assoc, stamped, whole, whole_last lists order t)
 
 -- jobs done whole do their lists
 whole_deeds : (rows : Rows) (jobs : List Job) → AllLegal rows jobs → (k : ℕ) → k ≤ length jobs
@@ -55,8 +51,7 @@ whole_deeds rows jobs legal zero le = refl
 whole_deeds rows jobs legal (suc k) le =
     more_deeds jobs (alone_below jobs k) k (not_yet jobs k k (omega arith)) (length (plan_of jobs k)) (omega arith)
     ∙ ap (λ (steps : List Step). deeds jobs (alone_below jobs k) ++ did k (list_of jobs k) steps)
-    (take-length (plan_of jobs k))
-    ∙ ap (λ (ds : List Deed). deeds jobs (alone_below jobs k) ++ ds)
+    (take-length (plan_of jobs k)) ∙ ap (λ (ds : List Deed). deeds jobs (alone_below jobs k) ++ ds)
     (whole_plan rows (list_of jobs k) (plan_of jobs k) (legal k (omega arith)) k)
     ∙ ap (λ (ds : List Deed). ds ++ stamped k (list_of jobs k)) (whole_deeds rows jobs legal k (omega arith))
     ∙ sym (whole_last (list_of jobs) (numbers_below k) k)
@@ -80,9 +75,7 @@ once_last (y ∷ xs) x once out =
 -- no number below a bound is the bound or above it
 pub not_among : (t n : ℕ) → n ≤ t → Among t (numbers_below n) → ⊥
 not_among t zero le h = h
-not_among t (suc n) le h =
-    let e : n ≡ t = among_last t n (numbers_below n) h (not_among t n (omega arith)) in
-    omega arith
+not_among t (suc n) le h = omega (arith, among_last t n (numbers_below n) h (not_among t n (omega arith)))
 
 -- none stands twice
 numbers_once : (n : ℕ) → Once (numbers_below n)

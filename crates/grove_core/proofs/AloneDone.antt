@@ -1,7 +1,6 @@
 -- What jobs done alone leave is what their run leaves, and what is told of it is what the run tells.
-use Rattle.std.proofs.Common.{◌≡◌, ℕ, zero, suc, ◌+◌, ◌-◌, ◌<◌, ◌≤◌, ℤ, List, [], ◌∷◌, ◌++◌, length, take, drop, map}
-use Rattle.std.proofs.Common.{refl, sym, ◌∙◌, ap, subst, inl, inr}
-use Rattle.std.proofs.Common.{arith, add-one, reverse, Some}
+use Rattle.std.proofs.Common.{◌≡◌, ℕ, zero, suc, ◌+◌, ◌-◌, ◌<◌, ℤ, List, [], ◌∷◌, ◌++◌, length, take, drop, map}
+use Rattle.std.proofs.Common.{refl, sym, ◌∙◌, ap, subst, inl, inr, arith, add-one, reverse, Some}
 use Rattle.std.specs.List.{slice_get, slice_range}
 use Rattle.std.proofs.lemmas.List.{append_assoc, append-nil, length-append, map-append}
 use Rattle.std.proofs.lemmas.Option.{slice_get_within}
@@ -45,10 +44,7 @@ legal_fits rows nodes plan legal = λ access node at.
 
 -- nodes below a bound, one list after the other
 below_append : (n : ℕ) (xs ys : List ℕ) → AreBelow n xs → AreBelow n ys → AreBelow n (xs ++ ys)
-below_append n xs ys first second = λ i node at. elim (get_append_cases xs ys i node at) [
-  | inl here ↦ first i node here
-  | inr there ↦ second there.0 node there.2
-]
+below_append n xs ys first second = grind (arith, get_append_cases)
 
 lists_below : (lists : ℕ → List Access) (m n : ℕ) → ((t : ℕ) → t < n → AreBelow m (nodes_of (lists t)))
     → AreBelow m (nodes_of (accesses_below lists n))
@@ -63,10 +59,7 @@ lists_below lists m (suc n) fit =
 in_turn_records : (lists : ℕ → List Access) (k : ℕ) (records : List ℤ)
     → records_after (accesses_below lists k) records ≡ serial_records lists (numbers_below k) records
 in_turn_records lists zero records = refl
-in_turn_records lists (suc k) records =
-    records_append (accesses_below lists k) (lists k) records
-    ∙ ap (records_after (lists k)) (in_turn_records lists k records)
-    ∙ sym (serial_last lists (numbers_below k) k records)
+in_turn_records lists (suc k) records = grind (arith, records_append, serial_last, in_turn_records lists k records)
 
 -- The replies of a job among those of all
 
@@ -77,10 +70,7 @@ replies_stand : (lists : ℕ → List Access) (n t : ℕ) → t < n → (records
     (records_after (accesses_below lists t) records)) ++ rest)
 replies_stand lists zero t lt records = absurd (omega arith)
 replies_stand lists (suc n) t lt records = elim (cases_eq n t) [
-  | inl e ↦ subst (λ (k : ℕ). (rest : List Reply) × (replies_to (accesses_below lists (suc n)) records
-      ≡ (replies_to (accesses_below lists k) records ++ replies_to (lists k)
-      (records_after (accesses_below lists k) records)) ++ rest)) e
-      ([], replies_append (accesses_below lists n) (lists n) records ∙ sym (append-nil _))
+  | inl e ↦ grind (arith, append-nil, replies_append)
   | inr ne ↦
       let before = replies_stand lists n t (omega arith) records in (
         before.0 ++ replies_to (lists n) (records_after (accesses_below lists n) records),
@@ -100,8 +90,7 @@ cut_out xs ys zs i j from to =
     ap (λ (n : ℕ). take n (drop i ((xs ++ ys) ++ zs))) long
     ∙ ap (λ (n : ℕ). take (length ys) (drop n ((xs ++ ys) ++ zs))) from
     ∙ ap (λ (rs : List Reply). take (length ys) (drop (length xs) rs)) (append_assoc xs ys zs)
-    ∙ ap (λ (rs : List Reply). take (length ys) rs) (drop-append_seam xs (ys ++ zs))
-    ∙ take-append_seam ys zs
+    ∙ ap (λ (rs : List Reply). take (length ys) rs) (drop-append_seam xs (ys ++ zs)) ∙ take-append_seam ys zs
 
 own_reply : (lists : ℕ → List Access) (n t : ℕ) → t < n → (records : List ℤ)
     → slice_range (replies_to (accesses_below lists n) records) (length (accesses_below lists t))
@@ -109,27 +98,15 @@ own_reply : (lists : ℕ → List Access) (n t : ℕ) → t < n → (records : L
     ≡ replies_to (lists t) (records_after (accesses_below lists t) records)
 own_reply lists n t lt records =
     let stand = replies_stand lists n t lt records in
-    let before : length (replies_to (accesses_below lists t) records) ≡ length (accesses_below lists t) =
-    replies_length (accesses_below lists t) records in
-    let own : length (replies_to (lists t) (records_after (accesses_below lists t) records)) ≡ length (lists t) =
-    replies_length (lists t) (records_after (accesses_below lists t) records) in
-    let size : length (accesses_below lists (suc t)) ≡ length (accesses_below lists t) + length (lists t) =
-    length-append (accesses_below lists t) (lists t) in
-    ap (λ (rs : List Reply). slice_range rs (length (accesses_below lists t)) (length (accesses_below lists (suc t))))
-    stand.1
-    ∙ cut_out (replies_to (accesses_below lists t) records)
-    (replies_to (lists t) (records_after (accesses_below lists t) records)) stand.0
-    (length (accesses_below lists t)) (length (accesses_below lists (suc t))) (omega arith) (omega arith)
+    grind (arith, cut_out, length-append, replies_length)
 
 -- functions that agree below a bound list the same
 map_same : {A : Type 0} (f g : ℕ → A) (n : ℕ) → ((k : ℕ) → k < n → f k ≡ g k)
     → map f (numbers_below n) ≡ map g (numbers_below n)
 map_same f g zero h = refl
 map_same f g (suc n) h =
-    map-append f (numbers_below n) (n ∷ [])
-    ∙ ap (λ zs. zs ++ f n ∷ []) (map_same f g n (λ k lt. h k (omega arith)))
-    ∙ ap (λ z. map g (numbers_below n) ++ z ∷ []) (h n (omega arith))
-    ∙ sym (map-append g (numbers_below n) (n ∷ []))
+    map-append f (numbers_below n) (n ∷ []) ∙ ap (λ zs. zs ++ f n ∷ []) (map_same f g n (λ k lt. h k (omega arith)))
+    ∙ ap (λ z. map g (numbers_below n) ++ z ∷ []) (h n (omega arith)) ∙ sym (map-append g (numbers_below n) (n ∷ []))
 
 -- where the next job's replies begin
 pub start_next : (jobs : List Job) (t : ℕ) → start_of jobs (t + 1) ≡ start_of jobs t + length (list_of jobs t)
@@ -137,21 +114,15 @@ start_next jobs t = ap (start_of jobs) (add-one t) ∙ length-append (accesses_b
 
 -- one part more
 pub parts_more : (f : ℕ → List Reply) (k : ℕ) (parts more : List (List Reply)) (one : List Reply)
-    → more ≡ parts ++ one ∷ [] → parts ≡ map f (numbers_below k)
-    → one ≡ f k → more ≡ map f (numbers_below (k + 1))
-parts_more f k parts more one grown so_far is =
-    grown ∙ ap (λ (xs : List (List Reply)). xs ++ one ∷ []) so_far
-    ∙ ap (λ (x : List Reply). map f (numbers_below k) ++ x ∷ []) is
-    ∙ sym (map-append f (numbers_below k) (k ∷ []))
-    ∙ ap (λ (n : ℕ). map f (numbers_below n)) (sym (add-one k))
+    → more ≡ parts ++ one ∷ [] → parts ≡ map f (numbers_below k) → one ≡ f k → more ≡ map f (numbers_below (k + 1))
+parts_more f k parts more one grown so_far is = grind (arith, add-one, map-append)
 
 -- jobs done one after the other, in an order that was made beforehand
 pub done_from : (rows : Rows) (jobs : List Job) → AllLegal rows jobs → (before after : List ℤ) (done more : DoneAlone)
     → length before ≡ length rows
     → done.replies.items ≡ [] → done.overwritten.items ≡ [] → done.order.items ≡ order_by rows jobs (comes_after jobs)
     → IsEachOnce done.order.items (length jobs)
-    → Does (accesses_below (list_of jobs) (length jobs)) before after done more
-    → IsDoneFrom rows jobs before after more
+    → Does (accesses_below (list_of jobs) (length jobs)) before after done more → IsDoneFrom rows jobs before after more
 done_from rows jobs legal before after done more size silent whole placed once does =
     let told : more.replies.items ≡ replies_to (accesses_below (list_of jobs) (length jobs)) before =
     does.replies
@@ -173,8 +144,7 @@ done_from rows jobs legal before after done more size silent whole placed once d
       all_replies = ap length told ∙ replies_length (accesses_below (list_of jobs) (length jobs)) before;
       order = order ∙ placed ∙ sym (jobs_alone rows jobs legal).order;
       once = subst (λ (os : List ℕ). IsEachOnce os (length jobs)) (sym order) once;
-      few = subst (λ (os : List ℕ). length os ≤ length jobs) (sym (order ∙ placed))
-          (order_length rows jobs (comes_after jobs));
+      few = grind (arith, order_length);
       back = does.back ∙ ap (λ (visits : List Access). records_after (reverse visits) before) whole;
       within = subst (λ (m : ℕ). AreBelow m (nodes_of more.overwritten.items)) long
           (subst (λ (ns : List ℕ). AreBelow (length rows) ns)

@@ -1,5 +1,5 @@
 -- Which job locked a node after which, where each was done alone: those with greater numbers.
-use Rattle.std.proofs.Common.{◌≡◌, ℕ, zero, suc, ◌+◌, ◌<◌, ◌≤◌, true, ltb, List, ◌∷◌, length, Option, Some, None}
+use Rattle.std.proofs.Common.{◌≡◌, ℕ, zero, suc, ◌+◌, ◌<◌, ◌≤◌, true, ltb, List, length, Option, Some, None}
 use Rattle.std.proofs.Common.{refl, sym, ◌∙◌, ap, inl, inr, arith}
 use Rattle.std.specs.List.{slice_get}
 use Rattle.std.proofs.lemmas.Option.{slice_get_within}
@@ -12,9 +12,8 @@ use Rattle.grove_plan.specs.Plans.{locks}
 use Rattle.grove_plan.proofs.Held.{locks_true, locks_from}
 use Rattle.grove_core.specs.declared.job.Job.{Job}
 use Rattle.grove_core.specs.declared.event.Event.{Event}
-use Rattle.grove_core.specs.declared.event.Event.TheVariants.{Take}
 use Rattle.grove_core.specs.Runs.{plan_of, AllLegal, steps_done, IsRun}
-use Rattle.grove_core.specs.Orders.{first_lock, locked_after_at, locked_after, order_by, placement_order}
+use Rattle.grove_core.specs.Orders.{first_lock, locked_after, order_by, placement_order}
 use Rattle.grove_core.specs.Alone.{steps_more, alone_below, alone, locks_some, comes_after}
 use Rattle.grove_core.proofs.Precedence.{Before, within_jobs}
 use Rattle.grove_core.proofs.PlacementOrder.{Tests}
@@ -25,41 +24,26 @@ use Rattle.grove_core.proofs.AloneSteps.{not_yet, all_done, is_run_below}
 -- more steps take no job back
 more_old : (u n : ℕ) (past : List Event) (t : ℕ) → steps_done past t ≤ steps_done (steps_more u n past) t
 more_old u zero past t = omega arith
-more_old u (suc n) past t =
-    let one : steps_done (steps_more u n past) t ≤ steps_done (Take u ∷ steps_more u n past) t =
-    steps_old (Take u) (steps_more u n past) t in
-    let more : steps_done past t ≤ steps_done (steps_more u n past) t = more_old u n past t in
-    omega arith
+more_old u (suc n) past t = grind (arith, steps_old, more_old u n past t)
 
 -- steps done before them keep their times
 more_time_old : (u n : ℕ) (past : List Event) (t i : ℕ) → i < steps_done past t
     → time (steps_more u n past) t i ≡ time past t i
 more_time_old u zero past t i lt = refl
-more_time_old u (suc n) past t i lt =
-    let grow : steps_done past t ≤ steps_done (steps_more u n past) t = more_old u n past t in
-    time_old (Take u) (steps_more u n past) t i (omega arith) ∙ more_time_old u n past t i lt
+more_time_old u (suc n) past t i lt = grind (arith, more_old, time_old, more_time_old u n past t i lt)
 
 -- they are so many events
 more_length : (u n : ℕ) (past : List Event) → length (steps_more u n past) ≡ n + length past
 more_length u zero past = omega arith
-more_length u (suc n) past = let e : length (steps_more u n past) ≡ n + length past =
-    more_length u n past in omega arith
+more_length u (suc n) past = omega (arith, more_length u n past)
 
 -- and they come later
 more_time_new : (u n : ℕ) (past : List Event) (t i : ℕ) → steps_done past t ≤ i
     → i < steps_done (steps_more u n past) t → length past ≤ time (steps_more u n past) t i
 more_time_new u zero past t i ge lt = absurd (omega arith)
 more_time_new u (suc n) past t i ge lt = elim (came (steps_more u n past) u t i lt) [
-  | inl old ↦
-      let e : time (Take u ∷ steps_more u n past) t i ≡ time (steps_more u n past) t i =
-      time_old (Take u) (steps_more u n past) t i old in
-      let h : length past ≤ time (steps_more u n past) t i = more_time_new u n past t i ge old in
-      omega arith
-  | inr new ↦
-      let e : time (Take u ∷ steps_more u n past) t i ≡ length (steps_more u n past) =
-      time_new (steps_more u n past) u t i new.0 new.1 in
-      let l : length (steps_more u n past) ≡ n + length past = more_length u n past in
-      omega arith
+  | inl old ↦ grind (arith, time_old, more_time_new u n past t i ge old)
+  | inr new ↦ grind (arith, more_length, time_new)
 ]
 
 -- of jobs done alone, each step of the one with the smaller number came first
@@ -71,22 +55,12 @@ in_turn jobs (suc k) t u i j lt below in_t in_u =
     let old_t : time (alone_below jobs (suc k)) t i ≡ time (alone_below jobs k) t i =
     more_time_old k (length (plan_of jobs k)) (alone_below jobs k) t i (omega arith) in
     elim (cases_lt u k) [
-      | inl less ↦
-          let done_u : steps_done (alone_below jobs k) u ≡ length (plan_of jobs u) = all_done jobs k u less in
-          let old_u : time (alone_below jobs (suc k)) u j ≡ time (alone_below jobs k) u j =
-          more_time_old k (length (plan_of jobs k)) (alone_below jobs k) u j (omega arith) in
-          let h : time (alone_below jobs k) t i < time (alone_below jobs k) u j =
-          in_turn jobs k t u i j lt less in_t in_u in
-          omega arith
+      | inl less ↦ grind (arith, all_done, more_time_old, time, in_turn jobs k t u i j lt less in_t in_u)
       | inr ge ↦
           let none : steps_done (alone_below jobs k) u ≡ 0 = not_yet jobs k u ge in
           let done_u : steps_done (alone_below jobs (suc k)) u ≡ length (plan_of jobs u) =
           all_done jobs (suc k) u below in
-          let within : time (alone_below jobs k) t i < length (alone_below jobs k) =
-          time_within (alone_below jobs k) t i (omega arith) in
-          let new : length (alone_below jobs k) ≤ time (alone_below jobs (suc k)) u j =
-          more_time_new k (length (plan_of jobs k)) (alone_below jobs k) u j (omega arith) (omega arith) in
-          omega arith
+          grind (arith, more_time_new, time, time_within)
     ]
 
 -- A plan that locks a node somewhere, as a test and as a fact
@@ -102,25 +76,17 @@ locks_some_from plan o node i e h =
 -- and where the test passes there is one
 locks_some_true : (plan : List Step) (node : ℕ) → locks_some plan (Some node) ≡ true
     → (i : ℕ) × (slice_get plan i ≡ Some (Lock node))
-locks_some_true plan node h =
-    let found : (i : ℕ) × (i < length plan) × (locks node (slice_get plan i) ≡ true) =
-    any_true (length plan) (λ i. locks node (slice_get plan i)) h in
-    (found.0, locks_true node (slice_get plan found.0) found.2)
+locks_some_true plan node h = grind (arith, any_true, locks_true)
 
 -- no job locked a node before it did
 not_itself : (rows : Rows) (jobs : List Job) → AllLegal rows jobs → (past : List Event) (t u node i j : ℕ) → t ≡ u
     → slice_get (plan_of jobs t) i ≡ Some (Lock node) → slice_get (plan_of jobs u) j ≡ Some (Lock node)
     → time past t i < time past u j → ⊥
-not_itself rows jobs legal past t u node i j same a b less =
-    let own : slice_get (plan_of jobs t) j ≡ Some (Lock node) = ap (λ (k : ℕ). slice_get (plan_of jobs k) j) same ∙ b in
-    let e : i ≡ j = (legal t (within_jobs jobs t i (Lock node) a)).obeys.once i j node a own in
-    let at_once : time past t i ≡ time past u j = ap (λ (k : ℕ). time past k i) same ∙ ap (time past u) e in
-    omega arith
+not_itself rows jobs legal past t u node i j same a b less = grind (arith, time, within_jobs)
 
 -- a job that locked the node later has a greater number
 after_if : (rows : Rows) (jobs : List Job) → AllLegal rows jobs → (t u node : ℕ)
-    → first_lock (plan_of jobs t) ≡ Some node
-    → locked_after jobs (alone jobs) t u ≡ true → comes_after jobs t u ≡ true
+    → first_lock (plan_of jobs t) ≡ Some node → locked_after jobs (alone jobs) t u ≡ true → comes_after jobs t u ≡ true
 unfolding run_timing
 after_if rows jobs legal t u node first h =
     let run : IsRun jobs (alone jobs) = is_run_below rows jobs legal (length jobs) (omega arith) in
@@ -132,25 +98,13 @@ after_if rows jobs legal t u node first h =
     let less : time (alone jobs) t before.first.at < time (alone jobs) u before.second.at = before.earlier in
     and_from (ltb t u) (locks_some (plan_of jobs u) (first_lock (plan_of jobs t)))
     (elim (cases_order t u) [
-      | inl same ↦
-          absurd (not_itself rows jobs legal (alone jobs) t u node before.first.at before.second.at same a b less)
-      | inr differ ↦ elim differ [
-        | inl lt ↦ lt-ltb t u lt
-        | inr gt ↦
-            let back : time (alone jobs) u before.second.at < time (alone jobs) t before.first.at =
-            in_turn jobs (length jobs) u t before.second.at before.first.at gt
-            (within_jobs jobs t before.first.at (Lock node) a)
-            (slice_get_within (plan_of jobs u) before.second.at (Lock node) b)
-            (slice_get_within (plan_of jobs t) before.first.at (Lock node) a) in
-            absurd (omega arith)
-      ]
-    ])
-    (locks_some_from (plan_of jobs u) (first_lock (plan_of jobs t)) node before.second.at first b)
+      | inl same ↦ grind (arith, not_itself)
+      | inr differ ↦ grind (arith, in_turn, lt-ltb, slice_get_within, time, within_jobs)
+    ]) (locks_some_from (plan_of jobs u) (first_lock (plan_of jobs t)) node before.second.at first b)
 
 -- and one with a greater number that locks it did so later
 after_from : (rows : Rows) (jobs : List Job) → AllLegal rows jobs → (t u node : ℕ)
-    → first_lock (plan_of jobs t) ≡ Some node
-    → comes_after jobs t u ≡ true → locked_after jobs (alone jobs) t u ≡ true
+    → first_lock (plan_of jobs t) ≡ Some node → comes_after jobs t u ≡ true → locked_after jobs (alone jobs) t u ≡ true
 unfolding run_timing
 after_from rows jobs legal t u node first h =
     let run : IsRun jobs (alone jobs) = is_run_below rows jobs legal (length jobs) (omega arith) in
@@ -179,12 +133,8 @@ after_from rows jobs legal t u node first h =
 
 -- by the first node, where there is one
 after_by : (rows : Rows) (jobs : List Job) → AllLegal rows jobs → (t u : ℕ) → (o : Option ℕ)
-    → first_lock (plan_of jobs t) ≡ o
-    → locked_after jobs (alone jobs) t u ≡ comes_after jobs t u
-after_by rows jobs legal t u None first =
-    ap (locked_after_at jobs (alone jobs) t u) first
-    ∙ sym (and_right (ltb t u) (locks_some (plan_of jobs u) (first_lock (plan_of jobs t)))
-    (ap (locks_some (plan_of jobs u)) first))
+    → first_lock (plan_of jobs t) ≡ o → locked_after jobs (alone jobs) t u ≡ comes_after jobs t u
+after_by rows jobs legal t u None first = grind (arith, and_right)
 after_by rows jobs legal t u (Some node) first =
     same_tests (locked_after jobs (alone jobs) t u) (comes_after jobs t u) (after_if rows jobs legal t u node first)
     (after_from rows jobs legal t u node first)

@@ -1,14 +1,12 @@
 -- Jobs done alone, as a caller does them: one list after the other, and each job's replies where its turn comes.
-use Rattle.std.proofs.Common.{◌≡◌, ◌≢◌, ℕ, zero, suc, ◌<◌, ◌≤◌, ℤ, Bool, true, false, ◌&&◌, ltb, cond, eqb, List, []}
-use Rattle.std.proofs.Common.{◌∷◌, ◌++◌, length}
-use Rattle.std.proofs.Common.{Option, Some, None, refl, sym, ◌∙◌, ap, subst, inl, inr, arith}
+use Rattle.std.proofs.Common.{◌≡◌, ◌≢◌, ℕ, zero, suc, ◌<◌, ◌≤◌, ℤ, Bool, true, false, ◌&&◌, ltb, eqb, List, []}
+use Rattle.std.proofs.Common.{◌∷◌, ◌++◌, length, Option, Some, None, refl, sym, ◌∙◌, ap, subst, inl, inr, arith}
 use Rattle.std.proofs.lemmas.Option.{none-some}
 use Rattle.std.proofs.lemmas.Bool.{cases_eq, eq-eqb, ne_eqb, cond-true, cond-false, and_left, and_right, and_from}
 use Rattle.std.proofs.lemmas.Bool.{lt-ltb, le-ltb}
 use Rattle.grove_base.specs.Numbers.{numbers_below}
 use Rattle.grove_tree.specs.Trees.{Rows, IsTree}
 use Rattle.grove_access.specs.declared.access.Access.{Access}
-use Rattle.grove_access.specs.declared.reply.Reply.{Reply}
 use Rattle.grove_access.specs.Effects.{records_after, replies_to}
 use Rattle.grove_core.specs.declared.job.Job.{Job}
 use Rattle.grove_core.specs.Serial.{serial_records, serial_replies}
@@ -31,8 +29,7 @@ replies_kept : (lists : ℕ → List Access) (order : List ℕ) (u t : ℕ) → 
     → serial_replies lists (order ++ u ∷ []) records t ≡ serial_replies lists order records t
 replies_kept lists [] u t ne records = cond-false (eqb u t) (replies_to (lists u) records) [] (ne_eqb u t ne)
 replies_kept lists (x ∷ order) u t ne records =
-    ap (λ (rest : List Reply). cond (eqb x t) (replies_to (lists x) records) rest)
-    (replies_kept lists order u t ne (records_after (lists x) records))
+    grind (arith, replies_kept lists order u t ne (records_after (lists x) records))
 
 -- a job that comes last has its replies on the records that the others leave
 replies_last : (lists : ℕ → List Access) (order : List ℕ) (t : ℕ) → (Among t order → ⊥) → (records : List ℤ)
@@ -71,8 +68,7 @@ one_once (x ∷ y ∷ order) each =
     let lt : x < 1 = each.within 0 x refl in
     let less : y < 1 = each.within 1 y refl in
     let e : y ≡ x = omega arith in
-    let same : ◌≡◌ {A = ℕ} 0 1 = each.once 0 1 x refl (ap (λ (n : ℕ). Some n) e) in
-    absurd (omega arith)
+    absurd (omega (arith, each.once 0 1 x refl (ap (λ (n : ℕ). Some n) e)))
 
 pub order_of_one : (rows : Rows) → IsTree rows → (jobs : List Job) → AllLegal rows jobs → (after : ℕ → ℕ → Bool)
     → length jobs ≡ 1 → order_by rows jobs after ≡ 0 ∷ []
@@ -87,26 +83,20 @@ first_read : (jobs : List Job) (t u : ℕ) (found o : Option ℕ) → found ≡ 
 first_read jobs t u found o first is = ap (λ (p : Option ℕ). ltb t u && locks_some (plan_of jobs u) p) (sym first ∙ is)
 
 pub comes_none : (jobs : List Job) (t u : ℕ) (found : Option ℕ) → found ≡ first_lock (plan_of jobs t)
-    → ((node : ℕ) → found ≡ Some node → ⊥)
-    → comes_after jobs t u ≡ false
+    → ((node : ℕ) → found ≡ Some node → ⊥) → comes_after jobs t u ≡ false
 comes_none jobs t u None first none = first_read jobs t u None None first refl ∙ and_right (ltb t u) false refl
 comes_none jobs t u (Some node) first none = absurd (none node refl)
 
 pub comes_true : (jobs : List Job) (t u node : ℕ) (found : Option ℕ) → found ≡ first_lock (plan_of jobs t)
-    → found ≡ Some node → t < u
-    → locks_some (plan_of jobs u) (Some node) ≡ true → comes_after jobs t u ≡ true
-comes_true jobs t u node found first is lt locks =
-    first_read jobs t u found (Some node) first is
-    ∙ and_from (ltb t u) (locks_some (plan_of jobs u) (Some node)) (lt-ltb t u lt) locks
+    → found ≡ Some node → t < u → locks_some (plan_of jobs u) (Some node) ≡ true → comes_after jobs t u ≡ true
+comes_true jobs t u node found first is lt locks = grind (arith, and_from, first_read, lt-ltb)
 
 pub comes_early : (jobs : List Job) (t u : ℕ) → u ≤ t → comes_after jobs t u ≡ false
 comes_early jobs t u le = and_left (ltb t u) (locks_some (plan_of jobs u) (first_lock (plan_of jobs t))) (le-ltb t u le)
 
 pub comes_free : (jobs : List Job) (t u node : ℕ) (found : Option ℕ) → found ≡ first_lock (plan_of jobs t)
-    → found ≡ Some node
-    → locks_some (plan_of jobs u) (Some node) ≡ false → comes_after jobs t u ≡ false
-comes_free jobs t u node found first is free =
-    first_read jobs t u found (Some node) first is ∙ and_right (ltb t u) (locks_some (plan_of jobs u) (Some node)) free
+    → found ≡ Some node → locks_some (plan_of jobs u) (Some node) ≡ false → comes_after jobs t u ≡ false
+comes_free jobs t u node found first is free = grind (arith, and_right, first_read)
 
 -- beyond the last job there is no plan
 pub plan_of_past : (jobs : List Job) (t : ℕ) → length jobs ≤ t → plan_of jobs t ≡ []

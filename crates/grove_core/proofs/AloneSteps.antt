@@ -1,5 +1,5 @@
 -- Jobs done whole, each alone: how far each job has come, and that this is a run without a wait.
-use Rattle.std.proofs.Common.{◌≡◌, ◌≢◌, ℕ, zero, suc, ◌+◌, ◌<◌, ◌≤◌, false, List, ◌∷◌, length, Some, refl, sym, ◌∙◌}
+use Rattle.std.proofs.Common.{◌≡◌, ◌≢◌, ℕ, zero, suc, ◌+◌, ◌<◌, ◌≤◌, false, List, length, Some, refl, sym, ◌∙◌}
 use Rattle.std.proofs.Common.{ap, inl, inr, zero-add, arith}
 use Rattle.std.specs.List.{slice_get}
 use Rattle.std.proofs.lemmas.Bool.{cases_eq, cases_lt}
@@ -9,7 +9,6 @@ use Rattle.grove_plan.specs.declared.step.Step.{Step}
 use Rattle.grove_plan.specs.Plans.{held}
 use Rattle.grove_core.specs.declared.job.Job.{Job}
 use Rattle.grove_core.specs.declared.event.Event.{Event}
-use Rattle.grove_core.specs.declared.event.Event.TheVariants.{Take}
 use Rattle.grove_core.specs.Runs.{plan_of, AllLegal, steps_done, holds, IsRun, IsFinished, waits_of}
 use Rattle.grove_core.specs.Alone.{steps_more, alone_below, alone}
 use Rattle.grove_core.proofs.StepTimes.{steps_new, steps_other}
@@ -17,11 +16,7 @@ use Rattle.grove_core.proofs.StepTimes.{steps_new, steps_other}
 -- more steps of a job bring it on by as many
 pub more_own : (t n : ℕ) (past : List Event) → steps_done (steps_more t n past) t ≡ n + steps_done past t
 more_own t zero past = sym (zero-add (steps_done past t))
-more_own t (suc n) past =
-    let one : steps_done (Take t ∷ steps_more t n past) t ≡ suc (steps_done (steps_more t n past) t) =
-    steps_new (steps_more t n past) t t refl in
-    let more : steps_done (steps_more t n past) t ≡ n + steps_done past t = more_own t n past in
-    omega arith
+more_own t (suc n) past = grind (arith, steps_new, more_own t n past)
 
 -- and no other job
 more_other : (u t n : ℕ) (past : List Event) → u ≢ t → steps_done (steps_more u n past) t ≡ steps_done past t
@@ -38,13 +33,7 @@ not_yet jobs (suc k) t le =
 pub all_done : (jobs : List Job) (k t : ℕ) → t < k → steps_done (alone_below jobs k) t ≡ length (plan_of jobs t)
 all_done jobs zero t lt = absurd (omega arith)
 all_done jobs (suc k) t lt = elim (cases_eq k t) [
-  | inl e ↦
-      let own : steps_done (steps_more k (length (plan_of jobs k)) (alone_below jobs k)) k
-      ≡ length (plan_of jobs k) + steps_done (alone_below jobs k) k =
-      more_own k (length (plan_of jobs k)) (alone_below jobs k) in
-      let none : steps_done (alone_below jobs k) k ≡ 0 = not_yet jobs k k (omega arith) in
-      let done : steps_done (alone_below jobs (suc k)) k ≡ length (plan_of jobs k) = omega arith in
-      ap (steps_done (alone_below jobs (suc k))) (sym e) ∙ done ∙ ap (λ (u : ℕ). length (plan_of jobs u)) e
+  | inl e ↦ grind (arith, more_own, not_yet)
   | inr ne ↦ more_other k t (length (plan_of jobs k)) (alone_below jobs k) ne ∙ all_done jobs k t (omega arith)
 ]
 
@@ -68,10 +57,7 @@ run_more jobs past run t begun free (suc n) le =
 -- where jobs have been done whole, no other job holds anything
 all_free : (rows : Rows) (jobs : List Job) → AllLegal rows jobs → (k : ℕ) → k ≤ length jobs → (u node : ℕ) → u ≢ k
     → holds jobs (alone_below jobs k) u node ≡ false
-all_free rows jobs legal k le u node ne = elim (cases_lt u k) [
-  | inl lt ↦ ap (held (plan_of jobs u) node) (all_done jobs k u lt) ∙ (legal u (omega arith)).obeys.ends_free node
-  | inr ge ↦ ap (held (plan_of jobs u) node) (not_yet jobs k u ge)
-]
+all_free rows jobs legal k le u node ne = grind (arith, all_done, cases_lt, not_yet)
 
 -- jobs done whole, each alone, are a run
 pub is_run_below : (rows : Rows) (jobs : List Job) → AllLegal rows jobs → (k : ℕ) → k ≤ length jobs
@@ -93,5 +79,4 @@ more_waits jobs t (suc n) past node = more_waits jobs t n past node
 
 pub no_waits : (jobs : List Job) (k node : ℕ) → waits_of jobs (alone_below jobs k) node ≡ 0
 no_waits jobs zero node = refl
-no_waits jobs (suc k) node =
-    more_waits jobs k (length (plan_of jobs k)) (alone_below jobs k) node ∙ no_waits jobs k node
+no_waits jobs (suc k) node = grind (arith, more_waits, no_waits jobs k node)

@@ -1,5 +1,5 @@
 -- What a carry knows is held and apart: it has all out that its job holds where it knows as many nodes.
-use Rattle.std.proofs.Common.{◌≡◌, ℕ, suc, ◌<◌, true, List, [], ◌∷◌, length, Some, is_some, refl, sym, ◌∙◌, ap, subst}
+use Rattle.std.proofs.Common.{◌≡◌, ℕ, suc, ◌<◌, true, List, [], ◌∷◌, length, Some, is_some, refl, ◌∙◌, ap, arith}
 use Rattle.std.specs.List.{slice_get}
 use Rattle.grove_base.specs.Numbers.{count_below}
 use Rattle.grove_base.proofs.Counting.{same_tests}
@@ -27,10 +27,7 @@ module _ (core : CoreState) (carry : Carried) (n : ℕ) (apart : AreApart carry.
   known_count = out_count n carry.known apart (λ i k at. within k.node (knows i k at).0)
 
   out_held : (node : ℕ) → is_some (known_at carry.known node) ≡ true → holds core.jobs (past_of core) carry.txn node ≡ true
-  out_held node out =
-      let value = some_true (known_at carry.known node) out in
-      let item = known_item carry.known node value.0 value.1 in
-      subst (λ (v : ℕ). holds core.jobs (past_of core) carry.txn v ≡ true) item.3 (knows item.0 item.1 item.2).0
+  out_held node out = grind (arith, known_item, some_true)
 
   -- as many nodes as are held: all of them
   pub has_counted : length carry.known ≡ count_below n (λ node. holds core.jobs (past_of core) carry.txn node) → HasAll core carry
@@ -39,6 +36,4 @@ module _ (core : CoreState) (carry : Carried) (n : ℕ) (apart : AreApart carry.
 
   -- and where all are out they are as many
   pub counted_has : HasAll core carry → length carry.known ≡ count_below n (λ node. holds core.jobs (past_of core) carry.txn node)
-  counted_has has =
-      sym known_count ∙ count_agree n (λ v. is_some (known_at carry.known v)) (λ v. holds core.jobs (past_of core) carry.txn v)
-      (λ v lt. same_tests (is_some (known_at carry.known v)) (holds core.jobs (past_of core) carry.txn v) (out_held v) (has v))
+  counted_has has = grind (arith, count_agree, known_count, out_held, same_tests)

@@ -1,15 +1,17 @@
 -- A job's accesses that are done ahead of the core, and the core that has taken them.
-use Rattle.std.proofs.Common.{◌≡◌, ℕ, zero, suc, ◌+◌, ◌<◌, ◌≤◌, ℤ, Bool, true, false, eqb, List, [], ◌∷◌, ◌++◌, length, reverse, take, replicate, get_or, Option, Some, None, is_some, refl, sym, ◌∙◌, ap, subst, inl, inr, arith, append_assoc}
+use Rattle.std.proofs.Common.{◌≡◌, ℕ, zero, suc, ◌+◌, ◌<◌, ◌≤◌, ℤ, true, eqb, List, [], ◌∷◌, ◌++◌, length, reverse}
+use Rattle.std.proofs.Common.{take, replicate, get_or, Option, Some, None, is_some, refl, sym, ◌∙◌, ap, subst, inl, inr}
+use Rattle.std.proofs.Common.{arith, append_assoc}
 use Rattle.std.specs.List.{slice_get}
 use Rattle.std.proofs.lemmas.List.{append-nil}
 use Rattle.std.proofs.Math.Seq.{take-length}
 use Rattle.std.proofs.lemmas.Option.{none-some, same_Some, slice_get_within, get_or_from_slice_get}
-use Rattle.std.proofs.lemmas.Bool.{cases_eq, both_ways, eq-eqb, ne_eqb, cond-true, cond-false}
+use Rattle.std.proofs.lemmas.Bool.{cases_eq, both_ways, eq-eqb, ne_eqb, cond-true, cond-false, false_from_ne_true}
 use Rattle.grove_access.specs.declared.access.Access.{Access}
 use Rattle.grove_access.specs.declared.reply.Reply.{Reply}
 use Rattle.grove_access.specs.declared.known.Known.{Known}
 use Rattle.grove_access.specs.declared.entry.Entry.{Entry}
-use Rattle.grove_access.specs.Effects.{stored, answer, record_at, changed_by, reply_to}
+use Rattle.grove_access.specs.Effects.{stored, record_at, changed_by, reply_to}
 use Rattle.grove_access.specs.Carries.{Carried, known_at, value_after, present_from, present_at, carry_settled, AreApart, IsSound}
 use Rattle.grove_base.proofs.Lists.{take_next, get_set_same, get_set_other, read_at, item_there}
 use Rattle.grove_access.proofs.CarriedNodes.{known_first, known_later, settled_at, value_after-append, out_value}
@@ -42,12 +44,8 @@ known_item (k ∷ known) node value at = elim (cases_eq k.node node) [
 -- and what stands somewhere is read there
 item_known : (known : List Known) (i : ℕ) (k : Known) → AreApart known → slice_get known i ≡ Some k → known_at known k.node ≡ Some k.value
 item_known [] i k apart at = absurd (none-some k at)
-item_known (x ∷ known) zero k apart at =
-    let same : x ≡ k = same_Some x k at in
-    known_first (x ∷ known) x known k.node refl (ap (λ (y : Known). y.node) same) ∙ ap (λ (y : Known). Some y.value) same
-item_known (x ∷ known) (suc i) k apart at =
-    let there : known_at known k.node ≡ Some k.value = item_known known i k apart.1 at in
-    known_later (x ∷ known) x known k.node refl (λ e. none-some k.value (sym (subst (λ (n : ℕ). known_at known n ≡ None) e apart.0) ∙ there)) ∙ there
+item_known (x ∷ known) zero k apart at = grind (arith, known_first, same_Some)
+item_known (x ∷ known) (suc i) k apart at = grind (arith, known_later, none-some, item_known known i k apart.1 at)
 
 -- a value that is there
 pub some_true : (o : Option ℤ) → is_some o ≡ true → (v : ℤ) × (o ≡ Some v)
@@ -57,26 +55,17 @@ some_true (Some v) h = (v, refl)
 is_some_of : (o : Option ℤ) (v : ℤ) → o ≡ Some v → is_some o ≡ true
 is_some_of o v e = rw e refl
 
-not_true : (b : Bool) → (b ≡ true → ⊥) → b ≡ false
-not_true true h = absurd (h refl)
-not_true false h = refl
-
 out_at : (core : CoreState) (carry : Carried) → KnowsAll core carry.txn carry.known → HasAll core carry → (node : ℕ) (o : Option ℤ) → known_at carry.known node ≡ o
     → is_some o ≡ holds core.jobs (past_of core) carry.txn node
-out_at core carry knows has node None at = sym (not_true (holds core.jobs (past_of core) carry.txn node) (λ held.
-    both_ways (is_some (known_at carry.known node)) (ap (λ (o : Option ℤ). is_some o) at) (has node held)))
-out_at core carry knows has node (Some value) at =
-    let item = known_item carry.known node value at in
-    sym (subst (λ (n : ℕ). holds core.jobs (past_of core) carry.txn n ≡ true) item.3 (knows item.0 item.1 item.2).0)
+out_at core carry knows has node None at = grind (arith, both_ways, false_from_ne_true)
+out_at core carry knows has node (Some value) at = grind (arith, known_item)
 
 pub is_of_all : (core : CoreState) (carry : Carried) → carry.txn < length core.jobs → KnowsAll core carry.txn carry.known → HasAll core carry
     → Follows (list_of core.jobs carry.txn) (plan_of core.jobs carry.txn) (steps_done (past_of core) carry.txn) carry.entries → IsOf core carry
 is_of_all core carry job knows has follows = record {
   job = job;
   out = λ node. out_at core carry knows has node (known_at carry.known node) refl;
-  known = λ node value at.
-      let item = known_item carry.known node value at in
-      subst (λ (n : ℕ). slice_get (records_of core) n ≡ Some value) item.3 ((knows item.0 item.1 item.2).1 ∙ ap (λ (v : ℤ). Some v) item.4);
+  known = grind (arith, known_item);
   next = λ i e at. (follows i e at).0;
   own = λ i e at. (follows i e at).1;
 }
@@ -107,16 +96,12 @@ past_taken : (history : List Event) (n t : ℕ) → reverse (history ++ replicat
 past_taken history zero t = ap (λ (es : List Event). reverse es) (append-nil history)
 past_taken history (suc n) t =
     ap (λ (es : List Event). reverse es) (sym (append_assoc history (Take t ∷ []) (replicate n (Take t))))
-    ∙ past_taken (history ++ Take t ∷ []) n t
-    ∙ ap (taken n t) (reverse_last history (Take t))
+    ∙ past_taken (history ++ Take t ∷ []) n t ∙ ap (taken n t) (reverse_last history (Take t))
     ∙ taken_shift n t (reverse history)
 
 steps_taken : (n u t : ℕ) (past : List Event) → u ≡ t → steps_done (taken n u past) t ≡ steps_done past t + n
 steps_taken zero u t past same = omega arith
-steps_taken (suc n) u t past same =
-    let rest : steps_done (taken n u past) t ≡ steps_done past t + n = steps_taken n u t past same in
-    let one : steps_done (Take u ∷ taken n u past) t ≡ suc (steps_done (taken n u past) t) = steps_new (taken n u past) u t same in
-    omega arith
+steps_taken (suc n) u t past same = grind (arith, steps_new, steps_taken n u t past same)
 
 -- The entries up to one of them are done: the job is as many steps further, and its records are as the entries left them.
 record HasDone (core : CoreState) (carry : Carried) (n : ℕ) (past : List Event) : Type 0 where
@@ -141,17 +126,7 @@ pub record IsReady (core : CoreState) (carry : Carried) (n : ℕ) (e : Entry) (p
 
 ready : (core : CoreState) (carry : Carried) → IsOf core carry → IsSound carry.known carry.entries → (n : ℕ) (e : Entry) → slice_get carry.entries n ≡ Some e → (past : List Event)
     → HasDone core carry n past → IsReady core carry n e past
-ready core carry of sound n e at past done =
-    let was = sound.replied n e at in
-    let found : slice_get (run_records core.jobs core.opening past) e.access.node ≡ Some (value_after (take n carry.entries) e.access.node was.0) = done.records e.access.node was.0 was.1 in
-    record {
-      next = ap (λ (k : ℕ). slice_get (plan_of core.jobs carry.txn) k) done.at ∙ of.next n e at;
-      listed = of.own n e at;
-      value = was.0;
-      known = was.1;
-      found = found;
-      replied = was.2 ∙ ap (answer e.access.op) (sym (get_or_from_slice_get (run_records core.jobs core.opening past) e.access.node _ _ found));
-    }
+ready core carry of sound n e at past done = grind (arith, get_or_from_slice_get)
 
 record_next : (core : CoreState) (carry : Carried) (n : ℕ) (e : Entry) → slice_get carry.entries n ≡ Some e → (past : List Event) → HasDone core carry n past → IsReady core carry n e past
     → (node : ℕ) (value : ℤ) → known_at carry.known node ≡ Some value
@@ -170,17 +145,14 @@ record_next core carry n e at past done ready node value known =
           ∙ get_set_same records e.access.node (stored e.access.op (record_at records e.access.node)) (slice_get_within records e.access.node old (ap (λ (k : ℕ). slice_get records k) same ∙ now))
           ∙ ap (λ (v : ℤ). Some (stored e.access.op v)) read
           ∙ ap (λ (v : ℤ). Some v) (sym (left ∙ cond-true (eqb e.access.node node) (stored e.access.op old) old (eq-eqb e.access.node node same)))
-      | inr other ↦ get_set_other records e.access.node node (stored e.access.op (record_at records e.access.node)) (λ e. other (sym e)) ∙ now
-          ∙ ap (λ (v : ℤ). Some v) (sym (left ∙ cond-false (eqb e.access.node node) (stored e.access.op old) old (ne_eqb e.access.node node other)))
+      | inr other ↦ grind (arith, cond-false, get_set_other, ne_eqb)
     ]
 
 -- and one entry more
 done_next : (core : CoreState) (carry : Carried) (n : ℕ) (e : Entry) → slice_get carry.entries n ≡ Some e → (past : List Event) → HasDone core carry n past → IsReady core carry n e past
     → HasDone core carry (suc n) (Take carry.txn ∷ past)
 done_next core carry n e at past done ready = record {
-  at = let here : steps_done past carry.txn ≡ steps_done (past_of core) carry.txn + n = done.at in
-      let new : steps_done (Take carry.txn ∷ past) carry.txn ≡ suc (steps_done past carry.txn) = steps_new past carry.txn carry.txn refl in
-      omega arith;
+  at = omega (arith, done.at, steps_new past carry.txn carry.txn refl);
   records = λ node value known. record_next core carry n e at past done ready node value known;
   replies = accessed_replies core.jobs core.opening past carry.txn e.number e.access ready.next ready.listed
       ∙ ap (λ rs. rs ++ reply_to e.access (run_records core.jobs core.opening past) ∷ []) done.replies
@@ -191,12 +163,7 @@ done_next core carry n e at past done ready = record {
 }
 
 done_all : (core : CoreState) (carry : Carried) → IsOf core carry → IsSound carry.known carry.entries → (n : ℕ) → n ≤ length carry.entries → HasDone core carry n (taken n carry.txn (past_of core))
-done_all core carry of sound zero le = record {
-  at = omega arith;
-  records = of.known;
-  replies = sym (append-nil (run_replies core.jobs core.opening (past_of core) carry.txn));
-  held = λ node. refl;
-}
+done_all core carry of sound zero le = grind (arith, append-nil)
 done_all core carry of sound (suc n) le =
     let item = item_there carry.entries n (omega arith) in
     let before : HasDone core carry n (taken n carry.txn (past_of core)) = done_all core carry of sound n (omega arith) in
@@ -218,16 +185,7 @@ taken_all core new carry of sound is =
     let past : List Event = taken n carry.txn (past_of core) in
     let past_is : past_of new ≡ past = ap past_of is ∙ past_taken core.history n carry.txn in
     let done : HasDone core carry n past = done_all core carry of sound n (omega arith) in
-    let whole : take n carry.entries ≡ carry.entries = take-length carry.entries in
-    record {
-      records = λ node value at.
-          let v = out_value carry.entries node (known_at carry.known node) value at in
-          ap (λ (p : List Event). slice_get (run_records core.jobs core.opening p) node) past_is ∙ done.records node v.0 v.1
-          ∙ ap (λ (es : List Entry). Some (value_after es node v.0)) whole ∙ ap (λ (x : ℤ). Some x) v.2;
-      replies = ap (λ (p : List Event). run_replies core.jobs core.opening p carry.txn) past_is ∙ done.replies ∙ ap (λ (es : List Entry). run_replies core.jobs core.opening (past_of core) carry.txn ++ replies_in es) whole;
-      next = ap (λ (p : List Event). next_step core.jobs p carry.txn) past_is ∙ ap (λ (k : ℕ). slice_get (plan_of core.jobs carry.txn) k) done.at;
-      held = λ node. ap (λ (p : List Event). holds core.jobs p carry.txn node) past_is ∙ done.held node;
-    }
+    grind (arith, out_value, take-length)
 
 -- and the carry, settled, is of the core then
 is_some_present : (entries : List Entry) (node : ℕ) (o : Option ℤ) → is_some (present_from entries node o) ≡ is_some o
@@ -238,30 +196,14 @@ is_some_present entries node (Some v) = refl
 pub is_of_settled : (core new : CoreState) (carry : Carried) → IsOf core carry → IsSound carry.known carry.entries → new ≡ after_steps core carry.txn (length carry.entries) → IsOf new (carry_settled carry)
 is_of_settled core new carry of sound is =
     let taken : HasTaken core carry new = taken_all core new carry of sound is in
-    let jobs : new.jobs ≡ core.jobs = ap (λ (s : CoreState). s.jobs) is in
-    let opening : new.opening ≡ core.opening = ap (λ (s : CoreState). s.opening) is in
-    record {
-      job = subst (λ (js : List Job). carry.txn < length js) (sym jobs) of.job;
-      out = λ node. ap (λ (o : Option ℤ). is_some o) (settled_at carry.entries carry.known node) ∙ is_some_present carry.entries node (known_at carry.known node)
-          ∙ of.out node ∙ sym (taken.held node) ∙ ap (λ (js : List Job). holds js (past_of new) carry.txn node) (sym jobs);
-      known = λ node value at.
-          ap (λ (js : List Job). slice_get (run_records js new.opening (past_of new)) node) jobs ∙ ap (λ (os : List ℤ). slice_get (run_records core.jobs os (past_of new)) node) opening
-          ∙ taken.records node value (sym (settled_at carry.entries carry.known node) ∙ at);
-      next = λ i e at. absurd (none-some e at);
-      own = λ i e at. absurd (none-some e at);
-    }
+    grind (arith, is_some_present, none-some, settled_at)
 
 -- What the tests read
 
 -- what holds of each item before a place and of the next one holds up to that
 pub each_more : {A : Type 0} (P : ℕ → A → Type 0) (xs : List A) (n : ℕ) (x : A) → ((i : ℕ) (y : A) → i < n → slice_get xs i ≡ Some y → P i y) → slice_get xs n ≡ Some x → P n x
     → (i : ℕ) (y : A) → i < n + 1 → slice_get xs i ≡ Some y → P i y
-each_more {A = A} P xs n x before at here i y lt read = elim (cases_eq n i) [
-  | inl e ↦
-      let same : x ≡ y = same_Some x y (sym at ∙ ap (λ (k : ℕ). slice_get xs k) e ∙ read) in
-      subst (λ (k : ℕ). P k y) e (subst (λ (z : A). P n z) same here)
-  | inr ne ↦ before i y (omega arith) read
-]
+each_more {A = A} P xs n x before at here i y lt read = grind (arith, cases_eq, same_Some)
 
 -- what holds up to the end holds of each item
 pub each_of : {A : Type 0} (P : ℕ → A → Type 0) (xs : List A) (n : ℕ) → length xs ≤ n → ((i : ℕ) (y : A) → i < n → slice_get xs i ≡ Some y → P i y)
@@ -271,10 +213,7 @@ each_of P xs n all before i y read = let lt : i < length xs = slice_get_within x
 -- who holds a node tells whether a job does
 pub holder_tells : (jobs : List Job) (past : List Event) (t node : ℕ) (holder : Option ℕ) → Owns jobs past node holder → is_owner holder t ≡ holds jobs past t node
 holder_tells jobs past t node None owns = sym (owns t)
-holder_tells jobs past t node (Some u) owns = elim (cases_eq u t) [
-  | inl e ↦ eq-eqb u t e ∙ sym (subst (λ (k : ℕ). holds jobs past k node ≡ true) e owns.0)
-  | inr ne ↦ ne_eqb u t ne ∙ sym (owns.1 t (λ e. ne (sym e)))
-]
+holder_tells jobs past t node (Some u) owns = grind (arith, cases_eq, eq-eqb, ne_eqb)
 
 -- so many steps more leave what the core was opened with
 pub batch_after : (core new : CoreState) (t n : ℕ) → new ≡ after_steps core t n → (new.tree ≡ core.tree) × (new.jobs ≡ core.jobs) × (new.opening ≡ core.opening)
@@ -282,8 +221,7 @@ batch_after core new t n is = (ap (λ (s : CoreState). s.tree) is, ap (λ (s : C
 
 -- and bring the job on
 pub next_after : (core new : CoreState) (t n : ℕ) → new ≡ after_steps core t n → next_step core.jobs (past_of new) t ≡ slice_get (plan_of core.jobs t) (steps_done (past_of core) t + n)
-next_after core new t n is =
-    ap (λ (k : ℕ). slice_get (plan_of core.jobs t) k) (ap (λ (past : List Event). steps_done past t) (ap past_of is ∙ past_taken core.history n t) ∙ steps_taken n t t (past_of core) refl)
+next_after core new t n is = grind (arith, past_taken, steps_taken)
 
 -- what is read of a job
 pub plan_read : (jobs seen : List Job) (t : ℕ) (job : Job) → seen ≡ jobs → t < length jobs → job ≡ get_or seen t job → job.plan ≡ plan_of jobs t
@@ -307,9 +245,7 @@ knows_test core carry t known e f apart of =
 -- and the test of its entries
 pub follows_test : (core : CoreState) (carry : Carried) (t : ℕ) (entries : List Entry) → t ≡ carry.txn → entries ≡ carry.entries → IsOf core carry
     → Follows (list_of core.jobs t) (plan_of core.jobs t) (steps_done (past_of core) t) entries
-follows_test core carry t entries e f of =
-    subst (λ (k : ℕ). Follows (list_of core.jobs k) (plan_of core.jobs k) (steps_done (past_of core) k) entries) (sym e)
-    (subst (λ (es : List Entry). Follows (list_of core.jobs carry.txn) (plan_of core.jobs carry.txn) (steps_done (past_of core) carry.txn) es) (sym f) (follows_of core carry of))
+follows_test core carry t entries e f of = grind (arith, follows_of)
 
 -- the entry that is read is the job's next step
 pub entry_next : (core now : CoreState) (carry : Carried) (t n : ℕ) (e : Entry) (seen : List Entry) → Follows (list_of core.jobs t) (plan_of core.jobs t) (steps_done (past_of core) t) seen
@@ -321,8 +257,7 @@ entry_next core now carry t n e seen follows txn lt read is =
 -- all entries are done
 pub steps_whole : (core new : CoreState) (carry : Carried) (n : ℕ) (seen : List Entry) → seen ≡ carry.entries → length seen ≤ n → n ≤ length seen → new ≡ after_steps core carry.txn n
     → new ≡ after_steps core carry.txn (length carry.entries)
-steps_whole core new carry n seen all over under is =
-    let whole : n ≡ length seen = omega arith in is ∙ ap (λ (k : ℕ). after_steps core carry.txn k) (whole ∙ ap length all)
+steps_whole core new carry n seen all over under is = grind (arith)
 
 -- the records are then the carry's present values
 pub records_taken : (core new : CoreState) (carry : Carried) → IsOf core carry → IsSound carry.known carry.entries → new ≡ after_steps core carry.txn (length carry.entries)

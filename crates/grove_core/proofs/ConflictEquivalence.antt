@@ -1,6 +1,6 @@
 -- Deeds may change places with free ones: a list of deeds is as good as the deeds dealt out by an order that agrees with its conflicts.
-use Rattle.std.proofs.Common.{◌≡◌, ◌≢◌, ℕ, ℤ, pos, Bool, true, false, cond, eqb, ◌⊎◌, List, [], ◌∷◌, ◌++◌, refl, sym, ◌∙◌, ap, subst, inl, inr}
-use Rattle.std.specs.Prelude.{slice_set}
+use Rattle.std.proofs.Common.{◌≡◌, ◌≢◌, ℕ, ℤ, pos, Bool, true, false, cond, eqb, ◌⊎◌, List, [], ◌∷◌, ◌++◌, refl, sym}
+use Rattle.std.proofs.Common.{◌∙◌, ap, subst, inl, inr, arith}
 use Rattle.std.specs.Bool.{⊤}
 use Rattle.std.proofs.lemmas.List.{set_comm, get_or-set_other}
 use Rattle.std.proofs.lemmas.Bool.{eqb-true, eqb-false}
@@ -24,10 +24,7 @@ same_trans a b c s r = record { records = λ start. s.records start ∙ r.record
 
 -- a deed before them
 pub same_cons : (d : Deed) (a b : List Deed) → Same a b → Same (d ∷ a) (d ∷ b)
-same_cons d a b s = record {
-  records = λ start. s.records (changed_by d.access start);
-  replies = λ start t. ap (λ (rs : List Reply). cond (eqb d.job t) (reply_to d.access start ∷ rs) rs) (s.replies (changed_by d.access start) t);
-}
+same_cons d a b s = grind (arith)
 
 -- deeds before them
 pub same_append : (ds a b : List Deed) → Same a b → Same (ds ++ a) (ds ++ b)
@@ -40,10 +37,7 @@ record_kept a node records ne = get_or-set_other records a.node node (stored a.o
 
 -- accesses of two nodes leave the same records in either order
 changes_commute : (a b : Access) (records : List ℤ) → a.node ≢ b.node → changed_by b (changed_by a records) ≡ changed_by a (changed_by b records)
-changes_commute a b records ne =
-    ap (λ (x : ℤ). slice_set (changed_by a records) b.node (stored b.op x)) (record_kept a b.node records (λ e. ne (sym e)))
-    ∙ set_comm records a.node b.node (stored a.op (record_at records a.node)) (stored b.op (record_at records b.node)) ne
-    ∙ ap (λ (x : ℤ). slice_set (changed_by b records) a.node (stored a.op x)) (sym (record_kept b a.node records ne))
+changes_commute a b records ne = grind (arith, record_kept, set_comm)
 
 -- the reply is the same after an access of another node
 reply_kept : (a b : Access) (records : List ℤ) → b.node ≢ a.node → reply_to b (changed_by a records) ≡ reply_to b records
@@ -59,16 +53,7 @@ replies_swap false false r s r' s' rest rest' apart x y z = z
 
 -- neighbours of two jobs at two nodes change places
 pub same_swap : (d e : Deed) (ds : List Deed) → d.access.node ≢ e.access.node → d.job ≢ e.job → Same (d ∷ e ∷ ds) (e ∷ d ∷ ds)
-same_swap d e ds nodes jobs = record {
-  records = λ start. ap (λ (r : List ℤ). deeds_records ds r) (changes_commute d.access e.access start nodes);
-  replies = λ start t. replies_swap (eqb d.job t) (eqb e.job t)
-      (reply_to d.access start) (reply_to e.access (changed_by d.access start)) (reply_to d.access (changed_by e.access start)) (reply_to e.access start)
-      (deeds_replies ds (changed_by e.access (changed_by d.access start)) t) (deeds_replies ds (changed_by d.access (changed_by e.access start)) t)
-      (λ p q. jobs (eqb-true d.job t p ∙ sym (eqb-true e.job t q)))
-      (sym (reply_kept e.access d.access start nodes))
-      (reply_kept d.access e.access start (λ w. nodes (sym w)))
-      (ap (λ (r : List ℤ). deeds_replies ds r t) (changes_commute d.access e.access start nodes));
-}
+same_swap d e ds nodes jobs = grind (arith, changes_commute, eqb-true, replies_swap, reply_kept)
 
 -- what holds of each deed
 abbrev pub AllDeeds : (Deed → Type 0) → List Deed → Type 0
@@ -154,11 +139,7 @@ left_conflicts R false d ds h c = (h, c)
 -- the conflicts of the others agree where all do
 pub others_conflicts : (R : ℕ → ℕ → Type 0) (t : ℕ) (ds : List Deed) → Conflicts R ds → Conflicts R (others t ds)
 others_conflicts R t [] h = tt
-others_conflicts R t (d ∷ ds) h =
-    let P : Deed → Type 0 = λ k. d.access.node ≡ k.access.node → d.job ≢ k.job → R d.job k.job in
-    left_conflicts R (eqb d.job t) d (others t ds)
-    (all_map (λ k. P k × (k.job ≢ t)) P (λ k w. w.0) (others t ds) (others_all P t ds h.0))
-    (others_conflicts R t ds h.1)
+others_conflicts R t (d ∷ ds) h = grind (arith, all_map, left_conflicts, others_all, others_conflicts R t ds h.1)
 
 -- the deeds of a job before which no other job is to come move to the front
 front_by : (R : ℕ → ℕ → Type 0) (t : ℕ) (b : Bool) (d : Deed) (ds mine rest : List Deed) → (b ≡ false → d.job ≢ t)

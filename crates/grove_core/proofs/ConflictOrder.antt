@@ -26,10 +26,7 @@ pub record Known (jobs : List Job) (past : List Event) (d : Deed) : Type 0 where
   pub listed : slice_get (list_of jobs d.job) number ≡ Some d.access
 
 known_old : (jobs : List Job) (e : Event) (past : List Event) (d : Deed) → Known jobs past d → Known jobs (e ∷ past) d
-known_old jobs e past d h =
-    let grow : steps_done past d.job ≤ steps_done (e ∷ past) d.job = steps_old e past d.job in
-    let lt : h.at < steps_done past d.job = h.done in
-    record { at = h.at; number = h.number; done = omega arith; is_access = h.is_access; listed = h.listed }
+known_old jobs e past d h = grind (arith, steps_old)
 
 -- what holds of the access that a step does
 deed_at_all : (P : Deed → Type 0) (t : ℕ) (o : Option Access) → ((visit : Access) → o ≡ Some visit → P (record { job = t; access = visit })) → AllDeeds P (deed_at t o)
@@ -48,34 +45,23 @@ pub known_all : (jobs : List Job) (past : List Event) → AllDeeds (Known jobs p
 known_all jobs [] = tt
 known_all jobs (Mark u ∷ past) = all_map (Known jobs past) (Known jobs (Mark u ∷ past)) (known_old jobs (Mark u) past) (deeds jobs past) (known_all jobs past)
 known_all jobs (Take u ∷ past) =
-    all_append (Known jobs (Take u ∷ past)) (deeds jobs past) (deed_of u (list_of jobs u) (next_step jobs past u))
-    (all_map (Known jobs past) (Known jobs (Take u ∷ past)) (known_old jobs (Take u) past) (deeds jobs past) (known_all jobs past))
-    (deed_of_all (Known jobs (Take u ∷ past)) u (list_of jobs u) (next_step jobs past u)
-    (λ n visit e f.
-    let grown : steps_done (Take u ∷ past) u ≡ suc (steps_done past u) = steps_new past u u refl in
-    record { at = steps_done past u; number = n; done = omega arith; is_access = e; listed = f }))
+    grind (arith, all_append, all_map, deed_of_all, known_old, steps_new, known_all jobs past)
 
 -- the node of an access of a legal plan is held
 pub access_held : (rows : Rows) (jobs : List Job) → AllLegal rows jobs → (t i n : ℕ) (visit : Access) → slice_get (plan_of jobs t) i ≡ Some (plan_step.Access n)
     → slice_get (list_of jobs t) n ≡ Some visit → HeldAt (plan_of jobs t) visit.node i
-access_held rows jobs legal t i n visit h k =
-    held_at (plan_of jobs t) visit.node i ((legal t (within_jobs jobs t i (plan_step.Access n) h)).performs.while_held i n visit.node h (node_at (list_of jobs t) n visit k))
+access_held rows jobs legal t i n visit h k = grind (arith, held_at, node_at, within_jobs)
 
 -- conflicts
 
 conflicts_map : (R S : ℕ → ℕ → Type 0) → ((t u : ℕ) → R t u → S t u) → (ds : List Deed) → Conflicts R ds → Conflicts S ds
 conflicts_map R S f [] c = tt
-conflicts_map R S f (d ∷ ds) c = (
-  all_map (λ k. d.access.node ≡ k.access.node → d.job ≢ k.job → R d.job k.job) (λ k. d.access.node ≡ k.access.node → d.job ≢ k.job → S d.job k.job)
-      (λ k w e ne. f d.job k.job (w e ne)) ds c.0,
-  conflicts_map R S f ds c.1,
-)
+conflicts_map R S f (d ∷ ds) c = grind (arith, all_map, conflicts_map R S f ds c.1)
 
 conflicts_append : (R : ℕ → ℕ → Type 0) (ds new : List Deed) → Conflicts R ds
     → AllDeeds (λ d. AllDeeds (λ k. d.access.node ≡ k.access.node → d.job ≢ k.job → R d.job k.job) new) ds → Conflicts R new → Conflicts R (ds ++ new)
 conflicts_append R [] new c cross cn = cn
-conflicts_append R (d ∷ ds) new c cross cn =
-    (all_append (λ k. d.access.node ≡ k.access.node → d.job ≢ k.job → R d.job k.job) ds new c.0 cross.0, conflicts_append R ds new c.1 cross.1 cn)
+conflicts_append R (d ∷ ds) new c cross cn = grind (arith, all_append, conflicts_append R ds new c.1 cross.1 cn)
 
 -- one deed alone has no conflict
 conflicts_at : (R : ℕ → ℕ → Type 0) (t : ℕ) (o : Option Access) → Conflicts R (deed_at t o)
@@ -92,10 +78,7 @@ conflicts_of R t list (Some (plan_step.Access n)) = conflicts_at R t (slice_get 
 locked_old : (jobs : List Job) (e : Event) (past : List Event) (run : IsRun jobs past) (more : IsRun jobs (e ∷ past)) (t node : ℕ)
     → Locked jobs (run_timing jobs past run) t node → Locked jobs (run_timing jobs (e ∷ past) more) t node
 unfolding run_timing
-locked_old jobs e past run more t node h =
-    let grow : steps_done past t ≤ steps_done (e ∷ past) t = steps_old e past t in
-    let lt : h.at < steps_done past t = h.done in
-    record { at = h.at; is_lock = h.is_lock; done = omega arith }
+locked_old jobs e past run more t node h = grind (arith, steps_old)
 
 precedes_old : (jobs : List Job) (e : Event) (past : List Event) (run : IsRun jobs past) (more : IsRun jobs (e ∷ past)) (t u : ℕ)
     → Precedes jobs (run_timing jobs past run) t u → Precedes jobs (run_timing jobs (e ∷ past) more) t u

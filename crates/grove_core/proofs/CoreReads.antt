@@ -15,11 +15,10 @@ use Rattle.grove_plan.specs.Plans.{is_lock}
 use Rattle.grove_plan.proofs.Held.{HeldAt, held_not}
 use Rattle.grove_core.specs.declared.job.Job.{Job}
 use Rattle.grove_core.specs.declared.event.Event.{Event}
-use Rattle.grove_core.specs.declared.event.Event.TheVariants.{Take}
 use Rattle.grove_core.specs.declared.owner.Owner.{Owner}
 use Rattle.grove_core.specs.declared.progress.Progress.{Progress}
-use Rattle.grove_core.specs.Runs.{list_of, plan_of, steps_done, next_step, holds, MayHappen, deeds, run_replies, waits_of}
-use Rattle.grove_core.specs.RunBounds.{lock_steps, most_events}
+use Rattle.grove_core.specs.Runs.{list_of, plan_of, steps_done, next_step, holds, MayHappen, deeds}
+use Rattle.grove_core.specs.RunBounds.{lock_steps}
 use Rattle.grove_core.specs.Kept.{CoreState, past_of}
 use Rattle.grove_core.specs.Owners.{holder_of, last_holder_of}
 use Rattle.grove_core.specs.CarriedTests.{is_owner}
@@ -37,8 +36,7 @@ reverse_last xs x = reverse-append xs (x ∷ [])
 
 -- what a lookup finds stands there
 pub found : {A : Type 0} {items looked : List A} {n number : ℕ} {x : A} → looked ≡ items → number ≡ n → ltb number (length looked) ≡ true → x ≡ get_or looked number x → slice_get items n ≡ Some x
-found {A} {items} {looked} {n} {number} {x} same is lt read =
-    subst (λ (xs : List A). slice_get xs n ≡ Some x) same (subst (λ (k : ℕ). slice_get looked k ≡ Some x) is (read_at looked number x (ltb-true number (length looked) lt) read))
+found {A} {items} {looked} {n} {number} {x} same is lt read = grind (arith, ltb-true, read_at)
 
 -- what the fields keep is kept of the core that callers see
 pub seen : {core value : CoreState} {kept : Tables} → core ≡ value → IsCore (run_of core) kept → IsCore (run_of value) kept
@@ -59,23 +57,14 @@ module _ {run : Run} {kept : Tables} (core : IsCore run kept) where
 
   -- a job has done few steps
   pub steps_few : (t : ℕ) → t < length run.jobs → steps_done run.past t < 2 ^ 32
-  steps_few t lt =
-      let le : steps_done run.past t ≤ length (plan_of run.jobs t) = steps_within run.jobs run.past core.is_run t in
-      let few : length (plan_of run.jobs t) < 2 ^ 32 = core.short t lt in
-      omega arith
+  steps_few t lt = omega (arith, steps_within run.jobs run.past core.is_run t, core.short t lt)
 
   pub steps_small : (t : ℕ) (s : Step) → next_step run.jobs run.past t ≡ Some s → {p : Progress} → HasProgress run t p → p.steps_done < 2 ^ 32
-  steps_small t s next {p} h =
-      let e : p.steps_done ≡ steps_done run.past t = h.at in
-      let few : steps_done run.past t < 2 ^ 32 = steps_few t (job_there core t s next) in
-      omega arith
+  steps_small t s next {p} h = grind (arith, job_there, steps_few)
 
   -- and holds no more nodes
   pub held_few : (t : ℕ) {p : Progress} → HasProgress run t p → p.held_nodes ≤ p.steps_done
-  held_few t {p} h =
-      let e : p.steps_done ≡ steps_done run.past t = h.at in
-      let le : p.held_nodes ≤ steps_done run.past t = h.held in
-      omega arith
+  held_few t {p} h = grind (arith)
 
   -- there is a record for each node
   pub records_all : length kept.records ≡ length run.tree
@@ -85,9 +74,7 @@ module _ {run : Run} {kept : Tables} (core : IsCore run kept) where
   pub accessed_within : (t number : ℕ) (visit : Access) → next_step run.jobs run.past t ≡ Some (plan_step.Access number) → slice_get (list_of run.jobs t) number ≡ Some visit → visit.node < length kept.records
   accessed_within t number visit next listed =
       let at : HeldAt (plan_of run.jobs t) visit.node (steps_done run.past t) = access_held run.tree run.jobs core.legal t (steps_done run.past t) number visit next listed in
-      let within : visit.node < length run.tree = (core.legal t (job_there core t (plan_step.Access number) next)).obeys.locks_nodes at.at visit.node at.is_lock in
-      let all : length kept.records ≡ length run.tree = records_all in
-      omega arith
+      grind (arith, job_there, records_all)
 
   -- an access that comes next is one of the list
   pub access_listed : (t number : ℕ) → next_step run.jobs run.past t ≡ Some (plan_step.Access number) → number < length (list_of run.jobs t)
@@ -96,36 +83,34 @@ module _ {run : Run} {kept : Tables} (core : IsCore run kept) where
   -- and there is room for its reply
   pub reply_room : (t number : ℕ) → next_step run.jobs run.past t ≡ Some (plan_step.Access number) → {p : Progress} → HasProgress run t p → length p.replies.items < p.replies.capacity
   reply_room t number next {p} h =
-      let fewer : length (run_replies run.jobs run.opening run.past t) < length (list_of run.jobs t) = (accessing run.tree run.jobs core.legal run.opening run.past core.is_run t number next).fewer in
-      let e : length p.replies.items ≡ length (run_replies run.jobs run.opening run.past t) = ap length h.answers in
-      let room : length (list_of run.jobs t) ≤ p.replies.capacity = h.room in
-      omega arith
+      omega (
+        arith,
+        (accessing run.tree run.jobs core.legal run.opening run.past core.is_run t number next).fewer,
+        ap length h.answers,
+        h.room,
+      )
 
   -- for a lock
   pub lock_room : (t node : ℕ) → next_step run.jobs run.past t ≡ Some (Lock node) → {p : Progress} → HasProgress run t p → length p.locked.items < p.locked.capacity
   lock_room t node next {p} h =
       let f = λ (i : ℕ). is_lock (slice_get (plan_of run.jobs t) i) in
-      let le : length p.locked.items ≤ count_below (steps_done run.past t) f = h.locks in
-      let one : count_below (suc (steps_done run.past t)) f ≡ suc (count_below (steps_done run.past t) f) = count_hit (steps_done run.past t) f (ap is_lock next) in
       let more : count_below (suc (steps_done run.past t)) f ≤ lock_steps (plan_of run.jobs t) =
       count_mono (suc (steps_done run.past t)) (length (plan_of run.jobs t)) f (slice_get_within (plan_of run.jobs t) (steps_done run.past t) (Lock node) next) in
-      let room : lock_steps (plan_of run.jobs t) ≤ p.locked.capacity = h.spare in
-      omega arith
+      omega (arith, h.locks, count_hit (steps_done run.past t) f (ap is_lock next), h.spare)
 
   -- and for a wait
   pub wait_room : (node count : ℕ) → slice_get kept.waits node ≡ Some count → count + 1 < 2 ^ 32
   wait_room node count at =
-      let e : count ≡ waits_of run.jobs run.past node = core.waited node count at in
-      let le : waits_of run.jobs run.past node ≤ length run.jobs = waits_most run.tree run.jobs core.legal run.past core.is_run node in
-      let few : length run.jobs ≤ 256 = core.few in
-      omega arith
+      omega (
+        arith,
+        core.waited node count at,
+        waits_most run.tree run.jobs core.legal run.past core.is_run node,
+        core.few,
+      )
 
   -- a job that unlocks a node holds some
   pub unlocks_some : (t node : ℕ) → next_step run.jobs run.past t ≡ Some (Unlock node) → {p : Progress} → HasProgress run t p → 0 < p.held_nodes
-  unlocks_some t node next {p} h =
-      let counted : p.held_nodes ≡ count_below (length run.tree) (λ v. holds run.jobs run.past t v) = h.holding in
-      let one : count_below (length run.tree) (λ v. holds run.jobs run.past t v) ≡ suc (count_below (length run.tree) (λ v. holds run.jobs (Take t ∷ run.past) t v)) = holding_before core t node next in
-      omega arith
+  unlocks_some t node next {p} h = grind (arith, holding_before)
 
   -- whether a job is at its end, by what is read of its progress and of its plan
   module _ (t : ℕ) (lt : t < length run.jobs) {p : Progress} (read : p ≡ get_or kept.progress t p) {job : Job} (is : job ≡ get_or run.jobs t job) {steps : List Step} (same : steps ≡ job.plan) where
@@ -136,10 +121,7 @@ module _ {run : Run} {kept : Tables} (core : IsCore run kept) where
     not_ended less = let at : p.steps_done ≡ steps_done run.past t = (job_read t lt read).at in omega (arith, size)
 
     pub ended : length steps ≤ p.steps_done → steps_done run.past t ≡ length (plan_of run.jobs t)
-    ended le =
-        let at : p.steps_done ≡ steps_done run.past t = (job_read t lt read).at in
-        let most : steps_done run.past t ≤ length (plan_of run.jobs t) = steps_within run.jobs run.past core.is_run t in
-        omega (arith, size)
+    ended le = grind (arith, job_read, size, steps_within)
 
   -- the tables have an entry for each node
   pub owner_there : (node : ℕ) → node < length run.tree → node < length kept.owners
@@ -154,8 +136,7 @@ module _ {run : Run} {kept : Tables} (core : IsCore run kept) where
       core.owned node owner (read_at kept.owners node owner (owner_there node within) (subst (λ (n : ℕ). owner ≡ get_or kept.owners n owner) same read))
 
   pub wait_read : (node number : ℕ) → node < length run.tree → number ≡ node → (count : ℕ) → count ≡ get_or kept.waits number count → slice_get kept.waits node ≡ Some count
-  wait_read node number within same count read =
-      read_at kept.waits node count (wait_there node within) (subst (λ (n : ℕ). count ≡ get_or kept.waits n count) same read)
+  wait_read node number within same count read = grind (arith, read_at, wait_there)
 
   -- who holds the node
   pub holder_seen : (node number : ℕ) → node < length run.tree → number ≡ node → (owner : Owner) → owner ≡ get_or kept.owners number owner → (o : Option ℕ) → holder_of owner ≡ o → Owns run.jobs run.past node o
@@ -171,21 +152,19 @@ module _ {run : Run} {kept : Tables} (core : IsCore run kept) where
 
   -- beyond the last node nothing is held
   pub owner_past : (t node : ℕ) → length kept.owners ≤ node → holds run.jobs run.past t node ≡ false
-  owner_past t node beyond = held_not (plan_of run.jobs t) node (steps_done run.past t) (λ lock.
-      let within : node < length run.tree = (core.legal t (within_jobs run.jobs t lock.at (Lock node) lock.is_lock)).obeys.locks_nodes lock.at node lock.is_lock in
-      let all : length kept.owners ≡ length run.tree = core.all_owners in
-      absurd (omega arith))
+  owner_past t node beyond = grind (arith, held_not, within_jobs)
 
 -- there is room for an event that may happen
 pub event_room : {core value : CoreState} {kept : Tables} → core ≡ value → IsCore (run_of core) kept → (event : Event) → MayHappen value.jobs (past_of value) event → length core.history < kept.room
 event_room {core} {value} {kept} is h event may =
-    let most : length (event ∷ reverse core.history) ≤ most_events core.jobs = history_bound core.jobs (event ∷ reverse core.history) (rw (← is) at may, h.is_run) in
-    let room : most_events core.jobs ≤ kept.room = h.room in
-    omega (arith, length-reverse core.history)
+    omega (
+      arith,
+      length-reverse core.history,
+      history_bound core.jobs (event ∷ reverse core.history) (rw (← is) at may, h.is_run),
+      h.room,
+    )
 
 -- and then the fields keep what they have to
 pub closed : {core value : CoreState} {event : Event} {kept : Tables} (items : List Event) (room : ℕ) → core ≡ value → items ≡ core.history ++ event ∷ [] → room ≡ kept.room
     → IsCore (after (run_of value) event) kept → IsCore (record (run_of core) { past = reverse items }) (record kept { room = room })
-closed {core} {value} {event} {kept} items room is e f h =
-    subst (λ (past : List Event). IsCore (record (run_of core) { past = past }) (record kept { room = room })) (sym (ap (λ (es : List Event). reverse es) e ∙ reverse_last core.history event))
-    (subst (λ (n : ℕ). IsCore (after (run_of core) event) (record kept { room = n })) (sym f) (subst (λ (c : CoreState). IsCore (after (run_of c) event) kept) (sym is) h))
+closed {core} {value} {event} {kept} items room is e f h = grind (arith, reverse_last)

@@ -1,5 +1,6 @@
 -- What a core keeps, after each kind of event.
-use Rattle.std.proofs.Common.{◌≡◌, ◌≢◌, ℕ, suc, ◌+◌, ◌<◌, ◌≤◌, ℤ, true, false, cond, eqb, List, [], ◌∷◌, ◌++◌, length, set, Option, Some, None, refl, sym, ◌∙◌, ap, subst, inl, inr, arith, add-one, length-append}
+use Rattle.std.proofs.Common.{◌≡◌, ◌≢◌, ℕ, suc, ◌+◌, ◌<◌, ◌≤◌, ℤ, true, false, eqb, List, [], ◌∷◌, ◌++◌, length, set}
+use Rattle.std.proofs.Common.{Option, Some, None, refl, sym, ◌∙◌, ap, subst, inl, inr, arith, add-one, length-append}
 use Rattle.std.specs.List.{slice_get}
 use Rattle.std.specs.Prelude.{IfSome, IfNone}
 use Rattle.smallvec.specs.SmallVec.{SmallVec}
@@ -46,19 +47,7 @@ locks_grow : (jobs : List Job) (t n : ℕ) → locks_below jobs t n ≤ locks_be
 locks_grow jobs t n = count_mono n (suc n) (λ i. is_lock (slice_get (plan_of jobs t) i)) (omega arith)
 
 progress_other : (run : Run) (t u : ℕ) (p : Progress) → t ≢ u → HasProgress run u p → HasProgress (after run (Take t)) u p
-progress_other run t u p ne h =
-    let same : steps_done (Take t ∷ run.past) u ≡ steps_done run.past u = steps_other run.past t u ne in
-    record {
-      at = h.at ∙ sym same;
-      marks = h.marks ∙ sym (cond-false (eqb t u) false (is_marked run.past u) (ne_eqb t u ne));
-      answers = h.answers ∙ sym (other_replies run.jobs run.opening run.past t u ne);
-      room = h.room;
-      spare = h.spare;
-      locks = subst (λ (n : ℕ). length p.locked.items ≤ locks_below run.jobs u n) (sym same) h.locks;
-      times = λ node first. h.times node first ∙ sym (lock_time_other run.jobs run.past t u node ne);
-      holding = h.holding ∙ ap (λ (k : ℕ). count_below (length run.tree) (λ node. held (plan_of run.jobs u) node k)) (sym same);
-      held = let le : p.held_nodes ≤ steps_done run.past u = h.held in omega arith;
-    }
+progress_other run t u p ne h = grind (arith, cond-false, lock_time_other, ne_eqb, other_replies, steps_other)
 
 -- of the job that took a step
 progress_taken : (run : Run) (t : ℕ) (p q : Progress) → HasProgress run t p
@@ -68,31 +57,14 @@ progress_taken : (run : Run) (t : ℕ) (p q : Progress) → HasProgress run t p
     → q.held_nodes ≡ count_below (length run.tree) (λ node. holds run.jobs (Take t ∷ run.past) t node) → q.held_nodes ≤ p.held_nodes + 1
     → HasProgress (after run (Take t)) t q
 progress_taken run t p q h at marks answers room spare locks times holding held =
-    let more : steps_done (Take t ∷ run.past) t ≡ suc (steps_done run.past t) = steps_new run.past t t refl in
-    record {
-      at = at ∙ add-one p.steps_done ∙ ap suc h.at ∙ sym more;
-      marks = marks ∙ sym (cond-true (eqb t t) false (is_marked run.past t) (eq-eqb t t refl));
-      answers = answers;
-      room = let r : length (list_of run.jobs t) ≤ p.replies.capacity = h.room in omega arith;
-      spare = let r : lock_steps (plan_of run.jobs t) ≤ p.locked.capacity = h.spare in omega arith;
-      locks = subst (λ (n : ℕ). length q.locked.items ≤ locks_below run.jobs t n) (sym more) locks;
-      times = times;
-      holding = holding;
-      held = let le : p.held_nodes ≤ steps_done run.past t = h.held in omega arith;
-    }
+    grind (arith, add-one, cond-true, eq-eqb, steps_new)
 
 -- of all jobs
 all_progress : (P : ℕ → Progress → Type 0) (Q : ℕ → Progress → Type 0) (progress : List Progress) (t : ℕ) (q : Progress)
     → ((u : ℕ) (p : Progress) → slice_get progress u ≡ Some p → P u p) → ((u : ℕ) (p : Progress) → t ≢ u → P u p → Q u p) → Q t q
     → (u : ℕ) (p : Progress) → slice_get (set progress t q) u ≡ Some p → Q u p
-all_progress P Q progress t q all more here u p h = elim (cases_eq t u) [
-  | inl e ↦
-      let there : slice_get (set progress t q) t ≡ Some p = subst (λ (k : ℕ). slice_get (set progress t q) k ≡ Some p) (sym e) h in
-      let lt : t < length (set progress t q) = slice_get_within (set progress t q) t p there in
-      let same : q ≡ p = same_Some q p (sym (get_set_same progress t q (let n : length (set progress t q) ≡ length progress = length-set progress t q in omega arith)) ∙ there) in
-      subst (λ (k : ℕ). Q k p) e (subst (λ (x : Progress). Q t x) same here)
-  | inr ne ↦ more u p ne (all u p (sym (get_set_other progress t u q (λ e. ne (sym e))) ∙ h))
-]
+all_progress P Q progress t q all more here u p h =
+    grind (arith, cases_eq, get_set_other, get_set_same, length-set, same_Some, slice_get_within)
 
 -- The core after a step
 
@@ -156,20 +128,15 @@ module _ {run : Run} {kept : Tables} (core : IsCore run kept) where
 
   -- a lock adds at most one to those that are kept
   kept_size : (p q : Progress) (lock : Option Locked) → KeepsLock p.locked q.locked lock → length q.locked.items ≤ length p.locked.items + 1
-  kept_size p q None keeps =
-      let e : length q.locked.items ≡ length p.locked.items = ap (λ (r : SmallVec Locked). length r.items) keeps.locked in omega arith
-  kept_size p q (Some lock) keeps =
-      let e : length q.locked.items ≡ length p.locked.items + 1 = ap length keeps.locked ∙ length-append p.locked.items (lock ∷ []) in omega arith
+  kept_size p q None keeps = grind (arith)
+  kept_size p q (Some lock) keeps = grind (arith, length-append)
 
   -- and the times are those of all nodes that some job locks first
   kept_times : (t node : ℕ) → next_step run.jobs run.past t ≡ Some (Lock node) → (p q : Progress) → HasProgress run t p
       → (lock : Option Locked) → IfSome lock (λ l. l ≡ record { node = node; time = length run.past }) → IfNone lock (IsFirst run.jobs node → ⊥)
       → KeepsLock p.locked q.locked lock
       → (n : ℕ) → IsFirst run.jobs n → time_in q.locked.items n ≡ lock_time run.jobs (Take t ∷ run.past) t n
-  kept_times t node next p q h None is left keeps n first =
-      let ne : node ≢ n = λ e. left (subst (λ (k : ℕ). IsFirst run.jobs k) (sym e) first) in
-      ap (λ (r : SmallVec Locked). time_in r.items n) keeps.locked ∙ h.times n first
-      ∙ sym (lock_time_kept run.jobs run.past t t n (locks_lock n node (next_step run.jobs run.past t) next ne))
+  kept_times t node next p q h None is left keeps n first = grind (arith, lock_time_kept, locks_lock)
   kept_times t node next p q h (Some lock) is left keeps n first =
       let new : Locked = record { node = node; time = length run.past } in
       ap (λ (ls : List Locked). time_in ls n) (keeps.locked ∙ ap (λ (l : Locked). p.locked.items ++ l ∷ []) is)
@@ -192,8 +159,7 @@ module _ {run : Run} {kept : Tables} (core : IsCore run kept) where
       (progress_taken run t p q h now.at now.marks
       (ap (λ (r : SmallVec Reply). r.items) now.replies ∙ h.answers ∙ sym (idle_replies run.jobs run.opening run.past t t idle))
       (ap (λ (r : SmallVec Reply). r.capacity) now.replies)
-      now.locked.room (omega arith)
-      (kept_times t node next p q h lock is left now.locked)
+      now.locked.room (omega arith) (kept_times t node next p q h lock is left now.locked)
       (now.held ∙ add-one p.held_nodes ∙ ap suc h.holding ∙ sym (holding_locked run.tree run.jobs run.past t node (length run.tree) (obeying t (Lock node) next) next (locked_within t node next))) (omega arith))
       (set kept.owners node (Holder t)) (length-set kept.owners node (Holder t) ∙ core.all_owners)
       (owned_after run.jobs run.past (Take t ∷ run.past) kept.owners node (Holder t) core.owned (
@@ -209,11 +175,7 @@ module _ {run : Run} {kept : Tables} (core : IsCore run kept) where
 
   -- any other step adds no lock
   left_size : (t : ℕ) (p q : Progress) → HasProgress run t p → q.locked ≡ p.locked → length q.locked.items ≤ locks_below run.jobs t (suc (steps_done run.past t))
-  left_size t p q h same =
-      let e : length q.locked.items ≡ length p.locked.items = ap (λ (r : SmallVec Locked). length r.items) same in
-      let le : length p.locked.items ≤ locks_below run.jobs t (steps_done run.past t) = h.locks in
-      let more : locks_below run.jobs t (steps_done run.past t) ≤ locks_below run.jobs t (suc (steps_done run.past t)) = locks_grow run.jobs t (steps_done run.past t) in
-      omega arith
+  left_size t p q h same = grind (arith, locks_grow)
 
   -- and leaves the times
   left_times : (t : ℕ) (p q : Progress) → HasProgress run t p → q.locked ≡ p.locked → ((n : ℕ) → locks n (next_step run.jobs run.past t) ≡ false)
@@ -223,18 +185,12 @@ module _ {run : Run} {kept : Tables} (core : IsCore run kept) where
   -- the owner of a held node
   owner_alone : (t node : ℕ) (owner : Option ℕ) → Owns run.jobs run.past node owner → holds run.jobs run.past t node ≡ true → (u : ℕ) → u ≢ t → holds run.jobs run.past u node ≡ false
   owner_alone t node None owns h u ne = absurd (both_ways (holds run.jobs run.past t node) (owns t) h)
-  owner_alone t node (Some w) owns h u ne = elim (cases_eq t w) [
-    | inl e ↦ owns.1 u (λ same. ne (same ∙ sym e))
-    | inr other ↦ absurd (both_ways (holds run.jobs run.past t node) (owns.1 t other) h)
-  ]
+  owner_alone t node (Some w) owns h u ne = grind (arith, both_ways, cases_eq)
 
   -- which locked it last
   owner_last : (t node : ℕ) (owner : Owner) → IsOwned run.jobs run.past node owner → holds run.jobs run.past t node ≡ true → IsLastAt run.jobs run.past node (Some t)
   owner_last t node Nobody owned h = absurd (both_ways (holds run.jobs run.past t node) (owned.0 t) h)
-  owner_last t node (Holder w) owned h = elim (cases_eq t w) [
-    | inl e ↦ subst (λ (k : ℕ). IsLastAt run.jobs run.past node (Some k)) (sym e) owned.1
-    | inr other ↦ absurd (both_ways (holds run.jobs run.past t node) (owned.0.1 t other) h)
-  ]
+  owner_last t node (Holder w) owned h = grind (arith, both_ways, cases_eq)
   owner_last t node (Last w) owned h = absurd (both_ways (holds run.jobs run.past t node) (owned.0 t) h)
 
   -- so many nodes are held before an unlock
@@ -262,8 +218,7 @@ module _ {run : Run} {kept : Tables} (core : IsCore run kept) where
       (set kept.owners node (Last t)) (length-set kept.owners node (Last t) ∙ core.all_owners)
       (owned_after run.jobs run.past (Take t ∷ run.past) kept.owners node (Last t) core.owned (
         λ u. elim (cases_eq t u) [
-          | inl e ↦ subst (λ (k : ℕ). holds run.jobs (Take t ∷ run.past) k node ≡ false) e
-              (ap (held (plan_of run.jobs t) node) (steps_new run.past t t refl) ∙ held_step_unlock (plan_of run.jobs t) node (steps_done run.past t) next)
+          | inl e ↦ grind (arith, held_step_unlock, steps_new)
           | inr ne ↦ holds_other run.jobs run.past t u node ne ∙ owner_alone t node (holder_of there.0) owned.0 holding u (λ e. ne (sym e))
         ],
         last_same run.jobs run.past (Take t ∷ run.past) node (Some t) (λ u. lock_time_kept run.jobs run.past t u node (ap (locks node) next)) (owner_last t node there.0 owned holding),
@@ -292,32 +247,15 @@ module _ {run : Run} {kept : Tables} (core : IsCore run kept) where
 
   -- after a mark
   marked_other : (t u : ℕ) (p : Progress) → t ≢ u → HasProgress run u p → HasProgress (after run (Mark t)) u p
-  marked_other t u p ne h = record {
-    at = h.at;
-    marks = h.marks ∙ sym (cond-false (eqb t u) true (is_marked run.past u) (ne_eqb t u ne));
-    answers = h.answers;
-    room = h.room;
-    spare = h.spare;
-    locks = h.locks;
-    times = h.times;
-    holding = h.holding;
-    held = h.held;
-  }
+  marked_other t u p ne h = grind (arith, cond-false, ne_eqb)
 
   waited_more : (t node count : ℕ) → next_step run.jobs run.past t ≡ Some (Lock node) → slice_get kept.waits node ≡ Some count → (n c : ℕ) → slice_get (set kept.waits node (count + 1)) n ≡ Some c
       → c ≡ waits_of run.jobs (Mark t ∷ run.past) n
   waited_more t node count next at n c h =
       let was : count ≡ waits_of run.jobs run.past node = core.waited node count at in
       elim (cases_eq node n) [
-        | inl e ↦
-            let there : slice_get (set kept.waits node (count + 1)) node ≡ Some c = subst (λ (k : ℕ). slice_get (set kept.waits node (count + 1)) k ≡ Some c) (sym e) h in
-            let same : count + 1 ≡ c = same_Some (count + 1) c (sym (get_set_same kept.waits node (count + 1) (slice_get_within kept.waits node count at)) ∙ there) in
-            let one : ◌≡◌ {A = ℕ} (cond (locks node (next_step run.jobs run.past t)) 1 0) 1 = cond-true (locks node (next_step run.jobs run.past t)) 1 0 (locks_from node (next_step run.jobs run.past t) next) in
-            subst (λ (k : ℕ). c ≡ waits_of run.jobs (Mark t ∷ run.past) k) e (omega arith)
-        | inr ne ↦
-            let old : c ≡ waits_of run.jobs run.past n = core.waited n c (sym (get_set_other kept.waits node n (count + 1) (λ e. ne (sym e))) ∙ h) in
-            let none : ◌≡◌ {A = ℕ} (cond (locks n (next_step run.jobs run.past t)) 1 0) 0 = cond-false (locks n (next_step run.jobs run.past t)) 1 0 (locks_lock n node (next_step run.jobs run.past t) next ne) in
-            omega arith
+        | inl e ↦ grind (arith, cond-true, get_set_same, locks_from, same_Some, slice_get_within)
+        | inr ne ↦ grind (arith, cond-false, get_set_other, locks_lock)
       ]
 
   -- and one that marks a job

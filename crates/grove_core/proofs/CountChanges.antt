@@ -15,55 +15,26 @@ count_agree zero s t same = refl
 count_agree (suc n) s t same =
     let rest : count_below n s ≡ count_below n t = count_agree n s t (λ k lt. same k (omega arith)) in
     elim (cases_Bool (s n)) [
-      | inl y ↦
-          let a : count_below (suc n) s ≡ suc (count_below n s) = count_hit n s y in
-          let b : count_below (suc n) t ≡ suc (count_below n t) = count_hit n t (sym (same n (omega arith)) ∙ y) in
-          omega arith
-      | inr f ↦
-          let a : count_below (suc n) s ≡ count_below n s = count_miss n s f in
-          let b : count_below (suc n) t ≡ count_below n t = count_miss n t (sym (same n (omega arith)) ∙ f) in
-          omega arith
+      | inl y ↦ grind (arith, count_hit)
+      | inr f ↦ grind (arith, count_miss)
     ]
 
 -- a test that passes one number more counts one more
 pub count_added : (n v : ℕ) (s t : ℕ → Bool) → v < n → s v ≡ false → t v ≡ true → ((k : ℕ) → v ≢ k → t k ≡ s k) → count_below n t ≡ suc (count_below n s)
 count_added zero v s t lt was now others = absurd (omega arith)
 count_added (suc n) v s t lt was now others = elim (cases_eq v n) [
-  | inl e ↦
-      let a : count_below (suc n) s ≡ count_below n s = count_miss n s (subst (λ (k : ℕ). s k ≡ false) e was) in
-      let b : count_below (suc n) t ≡ suc (count_below n t) = count_hit n t (subst (λ (k : ℕ). t k ≡ true) e now) in
-      let rest : count_below n t ≡ count_below n s = count_agree n t s (λ k less. others k (λ same. omega arith)) in
-      omega arith
+  | inl e ↦ grind (arith, count_agree, count_hit, count_miss)
   | inr ne ↦
       let rest : count_below n t ≡ suc (count_below n s) = count_added n v s t (omega arith) was now others in
       elim (cases_Bool (s n)) [
-        | inl y ↦
-            let a : count_below (suc n) s ≡ suc (count_below n s) = count_hit n s y in
-            let b : count_below (suc n) t ≡ suc (count_below n t) = count_hit n t (others n ne ∙ y) in
-            omega arith
-        | inr f ↦
-            let a : count_below (suc n) s ≡ count_below n s = count_miss n s f in
-            let b : count_below (suc n) t ≡ count_below n t = count_miss n t (others n ne ∙ f) in
-            omega arith
+        | inl y ↦ grind (arith, count_hit)
+        | inr f ↦ grind (arith, count_miss)
       ]
 ]
 
 count_wider : (n : ℕ) (s t : ℕ → Bool) → ((k : ℕ) → s k ≡ true → t k ≡ true) → count_below n s ≤ count_below n t
 count_wider zero s t wider = omega arith
-count_wider (suc n) s t wider =
-    let rest : count_below n s ≤ count_below n t = count_wider n s t wider in
-    elim (cases_Bool (s n)) [
-      | inl y ↦
-          let a : count_below (suc n) s ≡ suc (count_below n s) = count_hit n s y in
-          let b : count_below (suc n) t ≡ suc (count_below n t) = count_hit n t (wider n y) in
-          omega arith
-      | inr f ↦
-          let a : count_below (suc n) s ≡ count_below n s = count_miss n s f in
-          elim (cases_Bool (t n)) [
-            | inl y ↦ let b : count_below (suc n) t ≡ suc (count_below n t) = count_hit n t y in omega arith
-            | inr m ↦ let b : count_below (suc n) t ≡ count_below n t = count_miss n t m in omega arith
-          ]
-    ]
+count_wider (suc n) s t wider = grind (arith, cases_Bool, count_hit, count_miss, count_wider n s t wider)
 
 -- a test that passes wherever another does, and counts as many, passes nowhere else
 pub count_full : (n : ℕ) (s t : ℕ → Bool) → ((k : ℕ) → s k ≡ true → t k ≡ true) → count_below n s ≡ count_below n t → (k : ℕ) → k < n → t k ≡ true → s k ≡ true

@@ -55,8 +55,7 @@ module _ (rows : Rows) (tree : IsTree rows) (jobs : List Job) (legal : AllLegal 
             let above : depth_of rows f ≤ depth_of rows up.parent = deep rows tree (nodes_of (list_of jobs t)) (plan_of jobs t) legal_t f first_t i up.hold.at up.parent before up.hold.is_lock in
             elim (first_or_later (plan_of jobs u) j v k) [
               | inl e ↦ let same : v ≡ g = same_Some v g (sym e ∙ first_u) in
-                  let d : depth_of rows v ≡ depth_of rows g = ap (depth_of rows) same in
-                  absurd (omega arith)
+                  absurd (omega (arith, ap (depth_of rows) same))
               | inr later_u ↦
                   let over : ParentHeld rows (plan_of jobs u) v j = parent_held rows (nodes_of (list_of jobs u)) (plan_of jobs u) legal_u j v k later_u in
                   let before_u : over.hold.at < j = over.hold.before in

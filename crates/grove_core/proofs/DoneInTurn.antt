@@ -1,7 +1,6 @@
 -- Accesses done one after the other: what they leave and reply, and how what they overwrote is put back.
-use Rattle.std.proofs.Common.{◌≡◌, ℕ, suc, ◌+◌, ◌<◌, ◌≤◌, ℤ, pos, List, [], ◌∷◌, ◌++◌, length, take, get_or, set}
-use Rattle.std.proofs.Common.{refl, sym, ◌∙◌}
-use Rattle.std.proofs.Common.{ap, subst, inl, inr, arith, zero, add-one, zero-add, reverse, Some}
+use Rattle.std.proofs.Common.{◌≡◌, ℕ, suc, ◌+◌, ◌<◌, ◌≤◌, ℤ, List, [], ◌∷◌, ◌++◌, length, take, get_or, set, refl}
+use Rattle.std.proofs.Common.{sym, ◌∙◌, ap, subst, inl, inr, arith, zero, add-one, zero-add, reverse, Some}
 use Rattle.std.proofs.lemmas.Bool.{cases_eq}
 use Rattle.std.specs.List.{slice_get}
 use Rattle.std.specs.Vec.{vec_capacity}
@@ -13,7 +12,7 @@ use Rattle.grove_base.proofs.Lists.{take_next, read_at, get_append_left, get_las
 use Rattle.grove_access.specs.declared.access.Access.{Access}
 use Rattle.grove_access.specs.declared.access.Op.TheVariants.{Set}
 use Rattle.grove_access.specs.declared.reply.Reply.{Reply}
-use Rattle.grove_access.specs.Effects.{stored, record_at, changed_by, reply_to, records_after, replies_to}
+use Rattle.grove_access.specs.Effects.{record_at, changed_by, reply_to, records_after, replies_to}
 use Rattle.grove_access.specs.Lists.{nodes_of, AreBelow}
 use Rattle.grove_core.specs.declared.job.Job.{Job}
 use Rattle.grove_core.specs.declared.alone.DoneAlone.{DoneAlone}
@@ -32,8 +31,7 @@ records_append (x ∷ xs) ys records = records_append xs ys (changed_by x record
 pub replies_append : (xs ys : List Access) (records : List ℤ)
     → replies_to (xs ++ ys) records ≡ replies_to xs records ++ replies_to ys (records_after xs records)
 replies_append [] ys records = refl
-replies_append (x ∷ xs) ys records =
-    ap (λ (rs : List Reply). reply_to x records ∷ rs) (replies_append xs ys (changed_by x records))
+replies_append (x ∷ xs) ys records = grind (arith, replies_append xs ys (changed_by x records))
 
 pub replies_length : (xs : List Access) (records : List ℤ) → length (replies_to xs records) ≡ length xs
 replies_length [] records = refl
@@ -41,8 +39,7 @@ replies_length (x ∷ xs) records = ap suc (replies_length xs (changed_by x reco
 
 after_length : (xs : List Access) (records : List ℤ) → length (records_after xs records) ≡ length records
 after_length [] records = refl
-after_length (x ∷ xs) records =
-    after_length xs (changed_by x records) ∙ length-set records x.node (stored x.op (record_at records x.node))
+after_length (x ∷ xs) records = grind (arith, length-set, after_length xs (changed_by x records))
 
 -- What was overwritten is put back
 
@@ -53,22 +50,13 @@ set_back (x ∷ xs) (suc i) v d = ap (λ (ys : List ℤ). x ∷ ys) (set_back xs
 
 -- an access that stores what stood in the record undoes the one that overwrote it
 put_back : (records : List ℤ) (access back : Access) → back.node ≡ access.node
-    → back.op ≡ Set (record_at records access.node)
-    → changed_by back (changed_by access records) ≡ records
-put_back records access back node op =
-    ap (λ (n : ℕ). set (changed_by access records) n (stored back.op (record_at (changed_by access records) n))) node
-    ∙ ap (λ o. set (changed_by access records) access.node
-    (stored o (record_at (changed_by access records) access.node))) op
-    ∙ set_back records access.node (stored access.op (record_at records access.node)) (pos 0)
+    → back.op ≡ Set (record_at records access.node) → changed_by back (changed_by access records) ≡ records
+put_back records access back node op = grind (arith, set_back)
 
 -- the last one first
 pub undo_next : (items rest : List Access) (access : Access) (records after : List ℤ) → items ≡ rest ++ access ∷ []
-    → after ≡ changed_by access records
-    → records_after (reverse rest) after ≡ records_after (reverse items) records
-undo_next items rest access records after is changed =
-    ap (λ (rs : List ℤ). records_after (reverse rest) rs) changed
-    ∙ sym (ap (λ (visits : List Access). records_after (reverse visits) records) is
-    ∙ ap (λ (visits : List Access). records_after visits records) (reverse-append rest (access ∷ [])))
+    → after ≡ changed_by access records → records_after (reverse rest) after ≡ records_after (reverse items) records
+undo_next items rest access records after is changed = grind (arith, reverse-append)
 
 -- Nodes below a bound
 
@@ -79,8 +67,7 @@ last_below n items rest access is below =
     below (length (nodes_of rest)) access.node
     (ap (λ (visits : List Access). slice_get (nodes_of visits) (length (nodes_of rest))) is
     ∙ ap (λ (ns : List ℕ). slice_get ns (length (nodes_of rest)))
-    (map-append (λ (a : Access). a.node) rest (access ∷ []))
-    ∙ get_last (nodes_of rest) access.node)
+    (map-append (λ (a : Access). a.node) rest (access ∷ [])) ∙ get_last (nodes_of rest) access.node)
 
 rest_below : (n : ℕ) (items rest : List Access) (access : Access) → items ≡ rest ++ access ∷ []
     → AreBelow n (nodes_of items) → AreBelow n (nodes_of rest)
@@ -88,8 +75,7 @@ rest_below n items rest access is below =
     λ i node at. below i node
     (ap (λ (visits : List Access). slice_get (nodes_of visits) i) is
     ∙ ap (λ (ns : List ℕ). slice_get ns i) (map-append (λ (a : Access). a.node) rest (access ∷ []))
-    ∙ get_append_left (nodes_of rest) (access.node ∷ []) i (slice_get_within (nodes_of rest) i node at)
-    ∙ at)
+    ∙ get_append_left (nodes_of rest) (access.node ∷ []) i (slice_get_within (nodes_of rest) i node at) ∙ at)
 
 pub undo_within : (items rest : List Access) (access : Access) (records after : List ℤ) → items ≡ rest ++ access ∷ []
     → after ≡ changed_by access records
@@ -102,21 +88,12 @@ undo_within items rest access records after is changed below =
 -- Accesses done, with what is kept of them
 
 pub does_none : (records : List ℤ) (done : DoneAlone) → Does [] records records done done
-does_none records done = record {
-  records = refl;
-  replies = sym (append-nil done.replies.items);
-  nodes = sym (append-nil (nodes_of done.overwritten.items));
-  back = refl;
-  room = λ n has. subst (λ (k : ℕ). HasRoomFor k done) (zero-add n) has;
-  order = refl;
-}
+does_none records done = grind (arith, append-nil, zero-add)
 
 -- one more reply, or one more access that puts back
 one_less : {A : Type 0} (xs more : List A) (x : A) (n room space : ℕ) → more ≡ xs ++ x ∷ [] → space ≡ room
     → length xs + (1 + n) ≤ room → length more + n ≤ space
-one_less xs more x n room space is same has =
-    let size : length more ≡ length xs + 1 = ap length is ∙ length-append xs (x ∷ []) in
-    omega arith
+one_less xs more x n room space is same has = grind (arith, length-append)
 
 pub does_one : (before after : List ℤ) (access back : Access) (reply : Reply) (done more : DoneAlone)
     → after ≡ changed_by access before → reply ≡ reply_to access before → back.node ≡ access.node
@@ -128,10 +105,8 @@ pub does_one : (before after : List ℤ) (access back : Access) (reply : Reply) 
 does_one before after access back reply done more changed replied node op answered space kept place order = record {
   records = changed;
   replies = answered ∙ ap (λ (r : Reply). done.replies.items ++ r ∷ []) replied;
-  nodes = ap nodes_of kept ∙ map-append (λ (a : Access). a.node) done.overwritten.items (back ∷ [])
-      ∙ ap (λ (n : ℕ). nodes_of done.overwritten.items ++ n ∷ []) node;
-  back = sym (undo_next more.overwritten.items done.overwritten.items back after before kept
-      (sym (ap (changed_by back) changed ∙ put_back before access back node op)));
+  nodes = grind (arith, map-append);
+  back = grind (arith, put_back, undo_next);
   room = λ n has. record {
     replies =
         one_less done.replies.items more.replies.items reply n (vec_capacity done.replies) (vec_capacity more.replies)
@@ -152,9 +127,7 @@ does_more xs ys a b c d e f first second = record {
       ∙ append_assoc d.replies.items (replies_to xs a) (replies_to ys b)
       ∙ ap (λ (rs : List Reply). d.replies.items ++ rs)
       (ap (λ (rs : List ℤ). replies_to xs a ++ replies_to ys rs) first.records ∙ sym (replies_append xs ys a));
-  nodes = second.nodes ∙ ap (λ (ns : List ℕ). ns ++ nodes_of ys) first.nodes
-      ∙ append_assoc (nodes_of d.overwritten.items) (nodes_of xs) (nodes_of ys)
-      ∙ ap (λ (ns : List ℕ). nodes_of d.overwritten.items ++ ns) (sym (map-append (λ (v : Access). v.node) xs ys));
+  nodes = grind (arith, append_assoc, map-append);
   back = second.back ∙ first.back;
   room = λ n has.
       let size : length (xs ++ ys) ≡ length xs + length ys = length-append xs ys in
@@ -174,8 +147,7 @@ does_next list place access a b c d e f at so_far next =
 
 pub does_whole : (list : List Access) (place : ℕ) (a b : List ℤ) (d e : DoneAlone) → place ≡ length list
     → Does (take place list) a b d e → Does list a b d e
-does_whole list place a b d e end so_far =
-    subst (λ (xs : List Access). Does xs a b d e) (ap (λ (k : ℕ). take k list) end ∙ take-length list) so_far
+does_whole list place a b d e end so_far = grind (arith, take-length)
 
 -- the next list
 pub does_below : (lists : ℕ → List Access) (k : ℕ) (list : List Access) (a b c : List ℤ) (d e f : DoneAlone)
@@ -192,15 +164,11 @@ does_length xs a b d e does = ap length does.records ∙ after_length xs a
 -- Room
 
 room_less : (m n : ℕ) (done : DoneAlone) → m ≤ n → HasRoomFor n done → HasRoomFor m done
-room_less m n done le has =
-    let replies : length done.replies.items + n ≤ vec_capacity done.replies = has.replies in
-    let overwritten : length done.overwritten.items + n ≤ vec_capacity done.overwritten = has.overwritten in
-    record { replies = omega arith; overwritten = omega arith }
+room_less m n done le has = grind (arith)
 
 -- for the next access of a list
 pub room_next : (list : List Access) (place : ℕ) (a b : List ℤ) (d e : DoneAlone) → place < length list
-    → HasRoomFor (length list) d
-    → Does (take place list) a b d e → HasRoomFor 1 e
+    → HasRoomFor (length list) d → Does (take place list) a b d e → HasRoomFor 1 e
 room_next list place a b d e lt has so_far =
     let size : length (take place list) ≡ place = length-take-le place list (omega arith) in
     so_far.room 1 (room_less (length (take place list) + 1) (length list) d (omega arith) has)
@@ -212,19 +180,13 @@ below_more lists k (suc n) lt =
     let size : length (accesses_below lists (suc n)) ≡ length (accesses_below lists n) + length (lists n) =
     length-append (accesses_below lists n) (lists n) in
     elim (cases_eq n k) [
-      | inl e ↦
-          let same : length (accesses_below lists n) + length (lists n)
-          ≡ length (accesses_below lists k) + length (lists k) =
-          ap (λ (i : ℕ). length (accesses_below lists i) + length (lists i)) e in
-          omega arith
-      | inr ne ↦ let h : length (accesses_below lists k) + length (lists k) ≤ length (accesses_below lists n) =
-          below_more lists k n (omega arith) in omega arith
+      | inl e ↦ grind (arith)
+      | inr ne ↦ omega (arith, below_more lists k n (omega arith))
     ]
 
 -- for the next list
 pub room_list : (lists : ℕ → List Access) (k n : ℕ) (list : List Access) (a b : List ℤ) (d e : DoneAlone) → k < n
-    → list ≡ lists k
-    → HasRoomFor (length (accesses_below lists n)) d → Does (accesses_below lists k) a b d e
+    → list ≡ lists k → HasRoomFor (length (accesses_below lists n)) d → Does (accesses_below lists k) a b d e
     → HasRoomFor (length list) e
 room_list lists k n list a b d e lt is has so_far =
     let size : length list ≡ length (lists k) = ap length is in
@@ -242,6 +204,4 @@ list_read jobs t job lt is = ap (λ (j : Job). j.list) (sym is) ∙ sym (list_of
 pub fit_read : (jobs : List Job) (t : ℕ) (job : Job) (n m : ℕ) → t < length jobs → job ≡ get_or jobs t job → m ≡ n
     → ((u : ℕ) → u < length jobs → AreBelow n (nodes_of (list_of jobs u)))
     → AreBelow m (nodes_of (get_or jobs t job).list)
-fit_read jobs t job n m lt is same fit =
-    subst (λ (k : ℕ). AreBelow k (nodes_of (get_or jobs t job).list)) (sym same)
-    (subst (λ (xs : List Access). AreBelow n (nodes_of xs)) (sym (list_read jobs t job lt is)) (fit t lt))
+fit_read jobs t job n m lt is same fit = grind (arith, list_read)

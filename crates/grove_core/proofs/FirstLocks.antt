@@ -1,12 +1,13 @@
 -- The first lock of a plan is of the least deep of its nodes, and each later one of a child of a held node.
-use Rattle.std.proofs.Common.{◌≡◌, ℕ, zero, suc, ◌<◌, ◌≤◌, true, ◌⊎◌, List, [], ◌∷◌, length, Option, Some, None, refl, sym, ◌∙◌, ap, inl, inr, arith}
+use Rattle.std.proofs.Common.{◌≡◌, ℕ, zero, suc, ◌<◌, ◌≤◌, ◌⊎◌, List, [], ◌∷◌, length, Option, Some, None, refl, sym}
+use Rattle.std.proofs.Common.{◌∙◌, ap, inl, inr, arith}
 use Rattle.std.specs.List.{slice_get}
 use Rattle.std.proofs.lemmas.Option.{none-some, same_Some}
 use Rattle.grove_tree.specs.Trees.{Rows, IsTree, parent_of, one_more, depth_within, depth_of}
 use Rattle.grove_tree.proofs.Above.{parent_lt, parent_within, less_parents}
 use Rattle.grove_plan.specs.declared.step.Step.{Step}
 use Rattle.grove_plan.specs.declared.step.Step.TheVariants.{Lock, Unlock, Access}
-use Rattle.grove_plan.specs.Plans.{IsLater, IsLegal, held}
+use Rattle.grove_plan.specs.Plans.{IsLater, IsLegal}
 use Rattle.grove_plan.proofs.Held.{HeldAt, held_at, lock_same, unlock_no_lock, access_no_lock}
 use Rattle.grove_core.specs.Orders.{first_lock}
 use Rattle.grove_tree.proofs.Depths.{depth_step}
@@ -69,9 +70,7 @@ pub record ParentHeld (rows : Rows) (plan : List Step) (node i : ℕ) : Type 0 w
 -- a later lock has its node's parent held
 pub parent_held : (rows : Rows) (nodes : List ℕ) (plan : List Step) → IsLegal rows nodes plan → (i node : ℕ) → slice_get plan i ≡ Some (Lock node)
     → IsLater plan i → ParentHeld rows plan node i
-parent_held rows nodes plan legal i node h later =
-    let found : (parent : ℕ) × (parent_of rows node ≡ Some parent) × (held plan parent i ≡ true) = legal.obeys.parents i node h later in
-    record { parent = found.0; is_parent = found.1; hold = held_at plan found.0 i found.2 }
+parent_held rows nodes plan legal i node h later = grind (arith, held_at)
 
 -- no locked node is less deep than the first
 pub deep : (rows : Rows) → IsTree rows → (nodes : List ℕ) (plan : List Step) → IsLegal rows nodes plan → (f : ℕ) → first_lock plan ≡ Some f
@@ -83,6 +82,5 @@ deep rows tree nodes plan legal f first (suc bound) i v lt h = elim (first_or_la
       let up : ParentHeld rows plan v i = parent_held rows nodes plan legal i v h later in
       let before : up.hold.at < i = up.hold.before in
       let le : depth_of rows f ≤ depth_of rows up.parent = deep rows tree nodes plan legal f first bound up.hold.at up.parent (omega arith) up.hold.is_lock in
-      let e : depth_of rows v ≡ suc (depth_of rows up.parent) = depth_child rows tree v up.parent up.is_parent in
-      omega arith
+      omega (arith, depth_child rows tree v up.parent up.is_parent)
 ]

@@ -1,6 +1,6 @@
 -- The times of a job's locks, as they are kept.
-use Rattle.std.proofs.Common.{◌≡◌, ◌≢◌, ℕ, ◌<◌, eqb, List, [], ◌∷◌, ◌++◌, Option, Some, None, refl, sym, ◌∙◌, inl, inr, arith}
-use Rattle.std.specs.List.{slice_get}
+use Rattle.std.proofs.Common.{◌≡◌, ◌≢◌, ℕ, eqb, List, [], ◌∷◌, ◌++◌, Option, Some, None, refl, sym, ◌∙◌, inl, inr}
+use Rattle.std.proofs.Common.{arith}
 use Rattle.std.proofs.lemmas.Option.{none-some}
 use Rattle.std.proofs.lemmas.Bool.{cases_eq, eq-eqb, ne_eqb, cond-true, cond-false}
 use Rattle.grove_tree.specs.Trees.{Rows}
@@ -9,7 +9,7 @@ use Rattle.grove_plan.specs.Plans.{ObeysTreeProtocol}
 use Rattle.grove_core.specs.declared.job.Job.{Job}
 use Rattle.grove_core.specs.declared.event.Event.{Event}
 use Rattle.grove_core.specs.declared.locking.Locked.{Locked}
-use Rattle.grove_core.specs.Runs.{plan_of, steps_done, next_step}
+use Rattle.grove_core.specs.Runs.{plan_of, next_step}
 use Rattle.grove_core.specs.Orders.{lock_time}
 use Rattle.grove_core.specs.Cores.{time_in}
 use Rattle.grove_core.proofs.StepTimes.{time, lock_time_is}
@@ -33,17 +33,11 @@ time_added (lock ∷ locked) new node same none = elim (cases_eq lock.node node)
 -- and those of the others as before
 pub time_kept : (locked : List Locked) (new : Locked) (node : ℕ) → new.node ≢ node → time_in (locked ++ new ∷ []) node ≡ time_in locked node
 time_kept [] new node other = time_later new [] node other
-time_kept (lock ∷ locked) new node other = elim (cases_eq lock.node node) [
-  | inl here ↦ time_first lock (locked ++ new ∷ []) node here ∙ sym (time_first lock locked node here)
-  | inr there ↦ time_later lock (locked ++ new ∷ []) node there ∙ time_kept locked new node other ∙ sym (time_later lock locked node there)
-]
+time_kept (lock ∷ locked) new node other =
+    grind (arith, cases_eq, time_first, time_later, time_kept locked new node other)
 
 -- a node that a job is to lock has no lock time yet
 pub none_before : (rows : Rows) (jobs : List Job) (past : List Event) (t node : ℕ) → ObeysTreeProtocol rows (plan_of jobs t) → next_step jobs past t ≡ Some (Lock node)
     → (o : Option ℕ) → lock_time jobs past t node ≡ o → o ≡ None
 none_before rows jobs past t node obeys next None e = refl
-none_before rows jobs past t node obeys next (Some s) e =
-    let at : (i : ℕ) × (slice_get (plan_of jobs t) i ≡ Some (Lock node)) × (i < steps_done past t) × (time past t i ≡ s) = lock_time_is jobs past t node s e in
-    let before : at.0 < steps_done past t = at.2 in
-    let same : at.0 ≡ steps_done past t = obeys.once at.0 (steps_done past t) node at.1 next in
-    absurd (omega arith)
+none_before rows jobs past t node obeys next (Some s) e = grind (arith, lock_time_is, time)

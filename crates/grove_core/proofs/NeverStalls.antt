@@ -1,5 +1,6 @@
 -- An unfinished run can go on: were every unfinished job blocked, each would wait for an unfinished one, since a finished plan holds nothing.
-use Rattle.std.proofs.Common.{◌≡◌, ℕ, zero, suc, ◌<◌, ◌≤◌, Bool, true, false, not, ◌&&◌, eqb, ◌⊎◌, List, [], ◌∷◌, length, Some, sym, ◌∙◌, ap, subst, inl, inr, arith}
+use Rattle.std.proofs.Common.{◌≡◌, ℕ, zero, suc, ◌<◌, ◌≤◌, Bool, true, false, not, ◌&&◌, eqb, ◌⊎◌, List, [], ◌∷◌}
+use Rattle.std.proofs.Common.{length, Some, ap, subst, inl, inr, arith}
 use Rattle.std.proofs.lemmas.Option.{slice_get_within}
 use Rattle.std.proofs.lemmas.Bool.{cases_eq, cases_lt, cases_Bool, both_ways, ne_eqb, and_parts, and_from, lt-ltb, ltb-true, not-true, not_from_false, eqb-false, false_from_ne_true}
 use Rattle.grove_base.specs.Numbers.{any_below}
@@ -7,7 +8,6 @@ use Rattle.grove_tree.specs.Trees.{Rows}
 use Rattle.grove_base.proofs.Counting.{any_true, any_false}
 use Rattle.grove_plan.specs.declared.step.Step.{Step}
 use Rattle.grove_plan.specs.declared.step.Step.TheVariants.{Lock, Unlock, Access}
-use Rattle.grove_plan.specs.Plans.{held}
 use Rattle.grove_plan.proofs.Held.{HeldAt, held_at, lock_same, unlock_no_lock, access_no_lock}
 use Rattle.grove_core.specs.declared.job.Job.{Job}
 use Rattle.grove_core.specs.declared.event.Event.{Event}
@@ -37,10 +37,7 @@ take_or_wait : (jobs : List Job) (past : List Event) (t : ℕ) (s : Step) → ne
 take_or_wait jobs past t (Unlock v) e = inl (Unlock v, e, λ node h. absurd (unlock_no_lock v node (ap (λ (s : Step). Some s) h)))
 take_or_wait jobs past t (Access a) e = inl (Access a, e, λ node h. absurd (access_no_lock a node (ap (λ (s : Step). Some s) h)))
 take_or_wait jobs past t (Lock v) e = elim (cases_Bool (any_below (length jobs) (is_other_holder jobs past t v))) [
-  | inl some ↦
-      let found : (u : ℕ) × (u < length jobs) × (is_other_holder jobs past t v u ≡ true) = any_true (length jobs) (is_other_holder jobs past t v) some in
-      let parts : (not (eqb found.0 t) ≡ true) × (holds jobs past found.0 v ≡ true) = and_parts (not (eqb found.0 t)) (holds jobs past found.0 v) found.2 in
-      inr (found.0, (v, e, (eqb-false found.0 t (not-true (eqb found.0 t) parts.0), parts.1)))
+  | inl some ↦ grind (arith, and_parts, any_true, eqb-false, not-true)
   | inr none ↦ inl (Lock v, e, λ node h. subst (λ (n : ℕ). IsFree jobs past t n) (lock_same v node h) (free_if jobs past t v none))
 ]
 
@@ -54,15 +51,9 @@ some_or_all jobs past (suc n) = elim (some_or_all jobs past n) [
         let s : (s : Step) × (next_step jobs past n ≡ Some s) = item_there (plan_of jobs n) (steps_done past n) (ltb-true (steps_done past n) (length (plan_of jobs n)) more) in
         elim (take_or_wait jobs past n s.0 s.1) [
           | inl may ↦ inl (n, may)
-          | inr waits ↦ inr (λ t lt h. elim (cases_eq n t) [
-            | inl e ↦ subst (λ (k : ℕ). (u : ℕ) × IsBlocked jobs past k u) e waits
-            | inr ne ↦ below t (omega arith) h
-          ])
+          | inr waits ↦ grind (arith, cases_eq)
         ]
-    | inr done ↦ inr (λ t lt h. elim (cases_eq n t) [
-      | inl e ↦ absurd (both_ways (unfinished jobs past n) done (subst (λ (k : ℕ). unfinished jobs past k ≡ true) (sym e) h))
-      | inr ne ↦ below t (omega arith) h
-    ])
+    | inr done ↦ grind (arith, both_ways, cases_eq, unfinished)
   ]
 ]
 
@@ -70,30 +61,15 @@ some_or_all jobs past (suc n) = elim (some_or_all jobs past n) [
 pub steps_within : (jobs : List Job) (past : List Event) → IsRun jobs past → (t : ℕ) → steps_done past t ≤ length (plan_of jobs t)
 steps_within jobs [] run t = omega arith
 steps_within jobs (Mark u ∷ past) run t = steps_within jobs past run.1 t
-steps_within jobs (Take u ∷ past) run t = elim (cases_eq u t) [
-  | inl e ↦
-      let n : steps_done (Take u ∷ past) t ≡ suc (steps_done past t) = steps_new past u t e in
-      let lt : steps_done past t < length (plan_of jobs t) = slice_get_within (plan_of jobs t) (steps_done past t) run.0.0 (ap (λ (k : ℕ). next_step jobs past k) (sym e) ∙ run.0.1) in
-      omega arith
-  | inr ne ↦
-      let n : steps_done (Take u ∷ past) t ≡ steps_done past t = steps_other past u t ne in
-      let le : steps_done past t ≤ length (plan_of jobs t) = steps_within jobs past run.1 t in
-      omega arith
-]
+steps_within jobs (Take u ∷ past) run t =
+    grind (arith, cases_eq, slice_get_within, steps_new, steps_other, steps_within jobs past run.1 t)
 
 -- who holds a node is unfinished
 holder_unfinished : (rows : Rows) (jobs : List Job) → AllLegal rows jobs → (past : List Event) → IsRun jobs past → (u node : ℕ) → holds jobs past u node ≡ true
     → unfinished jobs past u ≡ true
 holder_unfinished rows jobs legal past run u node h =
     let at : HeldAt (plan_of jobs u) node (steps_done past u) = held_at (plan_of jobs u) node (steps_done past u) h in
-    let le : steps_done past u ≤ length (plan_of jobs u) = steps_within jobs past run u in
-    elim (cases_lt (steps_done past u) (length (plan_of jobs u))) [
-      | inl lt ↦ lt-ltb (steps_done past u) (length (plan_of jobs u)) lt
-      | inr ge ↦
-          let e : steps_done past u ≡ length (plan_of jobs u) = omega arith in
-          absurd (both_ways (holds jobs past u node)
-          (ap (held (plan_of jobs u) node) e ∙ (legal u (within_jobs jobs u at.at (Lock node) at.is_lock)).obeys.ends_free node) h)
-    ]
+    grind (arith, both_ways, cases_lt, lt-ltb, steps_within, within_jobs)
 
 -- while some job is unfinished some job may go on
 pub runs_go_on : RunsGoOn

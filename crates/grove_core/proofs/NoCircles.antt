@@ -1,5 +1,5 @@
 -- No jobs wait for each other in a circle, since each of them would wait for one of them.
-use Rattle.std.proofs.Common.{◌≡◌, ℕ, Bool, true, false, eqb, ◌||◌, ◌⊎◌, List, [], ◌∷◌, refl, subst, inl, inr}
+use Rattle.std.proofs.Common.{◌≡◌, ℕ, Bool, true, false, eqb, ◌||◌, ◌⊎◌, List, [], ◌∷◌, refl, subst, inl, inr, arith}
 use Rattle.std.proofs.lemmas.Bool.{eqb-true, eq-eqb}
 use Rattle.grove_core.specs.declared.job.Job.{Job}
 use Rattle.grove_core.specs.declared.event.Event.{Event}
@@ -38,8 +38,7 @@ waits_behind jobs past t [] last v along (inl e) = (last, inr refl, subst (λ (n
 waits_behind jobs past t [] last v along (inr none) = absurd none
 waits_behind jobs past t (u ∷ others) last v (blocked, along) (inl e) = (u, inl (inl refl), subst (λ (n : ℕ). IsBlocked jobs past n u) e blocked)
 waits_behind jobs past t (u ∷ others) last v (blocked, along) (inr more) =
-    let (w, behind, waits) = waits_behind jobs past u others last v along more in
-    (w, elim behind [ inl among ↦ inl (inr among) | inr is ↦ inr is ], waits)
+    grind (arith, waits_behind jobs past u others last v along more)
 
 -- no jobs of a run wait for each other in a circle
 pub no_circles : NoCircles

@@ -33,8 +33,7 @@ did t list (s ∷ steps) = deed_of t list (Some s) ++ did t list steps
 -- one step more has its own deed more
 pub did_last : (t : ℕ) (list : List Access) (steps : List Step) (s : Step) → did t list (steps ++ s ∷ []) ≡ did t list steps ++ deed_of t list (Some s)
 did_last t list [] s = append-nil (deed_of t list (Some s))
-did_last t list (x ∷ steps) s = ap (λ (ds : List Deed). deed_of t list (Some x) ++ ds) (did_last t list steps s)
-    ∙ sym (append_assoc (deed_of t list (Some x)) (did t list steps) (deed_of t list (Some s)))
+did_last t list (x ∷ steps) s = grind (arith, append_assoc, did_last t list steps s)
 
 own_append_by : (c : Bool) (d : Deed) (all mine more : List Deed) → all ≡ mine ++ more → kept_if c d all ≡ kept_if c d mine ++ more
 own_append_by true d all mine more e = ap (λ (ds : List Deed). d ∷ ds) e
@@ -69,8 +68,7 @@ pub kept_run : (jobs : List Job) (past : List Event) → IsRun jobs past → (t 
 kept_run jobs [] run t = refl
 kept_run jobs (Mark u ∷ past) run t = kept_run jobs past run.1 t
 kept_run jobs (Take u ∷ past) run t =
-    own_append t (deeds jobs past) (deed_of u (list_of jobs u) (next_step jobs past u))
-    ∙ elim (cases_eq u t) [
+    own_append t (deeds jobs past) (deed_of u (list_of jobs u) (next_step jobs past u)) ∙ elim (cases_eq u t) [
       | inl e ↦
           let step : slice_get (plan_of jobs t) (steps_done past t) ≡ Some run.0.0 = ap (λ (k : ℕ). next_step jobs past k) (sym e) ∙ run.0.1 in
           ap (λ (ds : List Deed). ds ++ own t (deed_of u (list_of jobs u) (next_step jobs past u))) (kept_run jobs past run.1 t)
@@ -80,11 +78,7 @@ kept_run jobs (Take u ∷ past) run t =
           ∙ sym (did_last t (list_of jobs t) (take (steps_done past t) (plan_of jobs t)) run.0.0)
           ∙ ap (did t (list_of jobs t)) (sym (take_next (plan_of jobs t) (steps_done past t) run.0.0 step))
           ∙ ap (λ (n : ℕ). did t (list_of jobs t) (take n (plan_of jobs t))) (sym (steps_new past u t e))
-      | inr ne ↦
-          ap (λ (ds : List Deed). own t (deeds jobs past) ++ ds) (none_of t u ne (list_of jobs u) (next_step jobs past u))
-          ∙ append-nil (own t (deeds jobs past))
-          ∙ kept_run jobs past run.1 t
-          ∙ ap (λ (n : ℕ). did t (list_of jobs t) (take n (plan_of jobs t))) (sym (steps_other past u t ne))
+      | inr ne ↦ grind (arith, append-nil, none_of, own, steps_other, kept_run jobs past run.1 t)
     ]
 
 -- the deeds of accesses by number
@@ -100,8 +94,7 @@ did_picked t list (plan_step.Access n ∷ steps) = ap (λ (ds : List Deed). deed
 
 picked_last : (t : ℕ) (list : List Access) (ns : List ℕ) (n : ℕ) → picked t list (ns ++ n ∷ []) ≡ picked t list ns ++ deed_at t (slice_get list n)
 picked_last t list [] n = append-nil (deed_at t (slice_get list n))
-picked_last t list (m ∷ ns) n = ap (λ (ds : List Deed). deed_at t (slice_get list m) ++ ds) (picked_last t list ns n)
-    ∙ sym (append_assoc (deed_at t (slice_get list m)) (picked t list ns) (deed_at t (slice_get list n)))
+picked_last t list (m ∷ ns) n = grind (arith, append_assoc, picked_last t list ns n)
 
 stamped_last : (t : ℕ) (list : List Access) (visit : Access) → stamped t (list ++ visit ∷ []) ≡ stamped t list ++ record { job = t; access = visit } ∷ []
 stamped_last t [] visit = refl
@@ -113,14 +106,9 @@ picked_numbers t list (suc n) le =
     let at : (x : Access) × (slice_get list n ≡ Some x) = item_there list n (omega arith) in
     picked_last t list (numbers_below n) n
     ∙ ap (λ (ds : List Deed). ds ++ deed_at t (slice_get list n)) (picked_numbers t list n (omega arith))
-    ∙ ap (λ (o : Option Access). stamped t (take n list) ++ deed_at t o) at.1
-    ∙ sym (stamped_last t (take n list) at.0)
+    ∙ ap (λ (o : Option Access). stamped t (take n list) ++ deed_at t o) at.1 ∙ sym (stamped_last t (take n list) at.0)
     ∙ ap (stamped t) (sym (take_next list n at.0 at.1))
 
 -- a whole plan does the whole list
 pub whole_plan : (rows : Rows) (list : List Access) (plan : List Step) → IsLegal rows (nodes_of list) plan → (t : ℕ) → did t list plan ≡ stamped t list
-whole_plan rows list plan legal t =
-    did_picked t list plan
-    ∙ ap (picked t list) (legal.performs.in_order ∙ ap numbers_below (nodes_length list))
-    ∙ picked_numbers t list (length list) (omega arith)
-    ∙ ap (stamped t) (take-length list)
+whole_plan rows list plan legal t = grind (arith, did_picked, nodes_length, picked_numbers, stamped, take-length)

@@ -1,5 +1,6 @@
 -- What a step does to who holds the nodes, and to how many are held.
-use Rattle.std.proofs.Common.{◌≡◌, ◌≢◌, ℕ, suc, ◌<◌, ◌≤◌, false, List, ◌∷◌, length, set, Option, Some, None, refl, sym, ◌∙◌, ap, subst, inl, inr, arith}
+use Rattle.std.proofs.Common.{◌≡◌, ◌≢◌, ℕ, suc, ◌<◌, ◌≤◌, false, List, ◌∷◌, length, set, Option, Some, None, refl, sym}
+use Rattle.std.proofs.Common.{◌∙◌, ap, inl, inr, arith}
 use Rattle.std.specs.List.{slice_get}
 use Rattle.std.proofs.lemmas.List.{length-set}
 use Rattle.std.proofs.lemmas.Option.{same_Some, slice_get_within}
@@ -15,7 +16,6 @@ use Rattle.grove_core.specs.declared.event.Event.TheVariants.{Take}
 use Rattle.grove_core.specs.Runs.{plan_of, steps_done, next_step, holds}
 use Rattle.grove_core.specs.Orders.{lock_time, earlier}
 use Rattle.grove_core.specs.declared.owner.Owner.{Owner}
-use Rattle.grove_core.specs.Owners.{holder_of, last_holder_of}
 use Rattle.grove_core.specs.Cores.{Owns, IsLastAt, IsOwned}
 use Rattle.grove_core.proofs.CountChanges.{count_added}
 use Rattle.grove_core.proofs.StepTimes.{time, steps_new, steps_other, time_within, lock_time_is}
@@ -35,20 +35,12 @@ last_same jobs old new node (Some t) same h = λ u. ap (λ (o : Option ℕ). ear
 -- and both
 pub owned_same : (jobs : List Job) (old new : List Event) (node : ℕ) (owner : Owner) → ((u : ℕ) → holds jobs new u node ≡ holds jobs old u node)
     → ((u : ℕ) → lock_time jobs new u node ≡ lock_time jobs old u node) → IsOwned jobs old node owner → IsOwned jobs new node owner
-owned_same jobs old new node owner same times h = (
-  owns_same jobs old new node (holder_of owner) same h.0,
-  last_same jobs old new node
-      (last_holder_of owner) times h.1,
-)
+owned_same jobs old new node owner same times h = grind (arith, last_same, owns_same)
 
 -- a lock that is the last event has no later one
 pub none_later : (jobs : List Job) (past : List Event) (u node n : ℕ) → length past ≤ suc n → (o : Option ℕ) → lock_time jobs past u node ≡ o → earlier (Some n) o ≡ false
 none_later jobs past u node n le None e = refl
-none_later jobs past u node n le (Some s) e =
-    let lock : (i : ℕ) × (slice_get (plan_of jobs u) i ≡ Some (Lock node)) × (i < steps_done past u) × (time past u i ≡ s) = lock_time_is jobs past u node s e in
-    let lt : time past u lock.0 < length past = time_within past u lock.0 lock.2 in
-    let is : time past u lock.0 ≡ s = lock.3 in
-    le-ltb n s (omega arith)
+none_later jobs past u node n le (Some s) e = grind (arith, le-ltb, lock_time_is, time, time_within)
 
 pub holds_other : (jobs : List Job) (past : List Event) (t u node : ℕ) → t ≢ u → holds jobs (Take t ∷ past) u node ≡ holds jobs past u node
 holds_other jobs past t u node ne = ap (held (plan_of jobs u) node) (steps_other past t u ne)
@@ -56,11 +48,7 @@ holds_other jobs past t u node ne = ap (held (plan_of jobs u) node) (steps_other
 -- a step that neither locks nor unlocks a node leaves who holds it
 pub holds_same : (jobs : List Job) (past : List Event) (t node : ℕ) → locks node (next_step jobs past t) ≡ false → unlocks node (next_step jobs past t) ≡ false
     → (u : ℕ) → holds jobs (Take t ∷ past) u node ≡ holds jobs past u node
-holds_same jobs past t node no_lock no_unlock u = elim (cases_eq t u) [
-  | inl e ↦ subst (λ (k : ℕ). holds jobs (Take t ∷ past) k node ≡ holds jobs past k node) e
-      (ap (held (plan_of jobs t) node) (steps_new past t t refl) ∙ held_step_other (plan_of jobs t) node (steps_done past t) no_lock no_unlock)
-  | inr ne ↦ holds_other jobs past t u node ne
-]
+holds_same jobs past t node no_lock no_unlock u = grind (arith, cases_eq, held_step_other, holds_other, steps_new)
 
 -- a lock adds one node to those that the job holds
 pub holding_locked : (rows : Rows) (jobs : List Job) (past : List Event) (t node n : ℕ) → ObeysTreeProtocol rows (plan_of jobs t) → next_step jobs past t ≡ Some (Lock node) → node < n
@@ -68,9 +56,7 @@ pub holding_locked : (rows : Rows) (jobs : List Job) (past : List Event) (t node
 holding_locked rows jobs past t node n obeys next within =
     count_added n node (λ v. holds jobs past t v) (λ v. holds jobs (Take t ∷ past) t v) within
     (held_not (plan_of jobs t) node (steps_done past t) (λ h.
-    let before : h.at < steps_done past t = h.before in
-    let same : h.at ≡ steps_done past t = obeys.once h.at (steps_done past t) node h.is_lock next in
-    omega arith))
+    omega (arith, h.before, obeys.once h.at (steps_done past t) node h.is_lock next)))
     (ap (held (plan_of jobs t) node) (steps_new past t t refl) ∙ held_step_lock (plan_of jobs t) node (steps_done past t) next)
     (λ v ne. holds_same jobs past t v (locks_lock v node (next_step jobs past t) next ne) (ap (unlocks v) next) t)
 
@@ -90,10 +76,6 @@ pub owned_after : (jobs : List Job) (past new : List Event) (owners : List Owner
     → ((node : ℕ) → v ≢ node → (u : ℕ) → lock_time jobs new u node ≡ lock_time jobs past u node)
     → (node : ℕ) (o : Owner) → slice_get (set owners v owner) node ≡ Some o → IsOwned jobs new node o
 owned_after jobs past new owners v owner all here same times node o h = elim (cases_eq v node) [
-  | inl e ↦
-      let there : slice_get (set owners v owner) v ≡ Some o = subst (λ (k : ℕ). slice_get (set owners v owner) k ≡ Some o) (sym e) h in
-      let lt : v < length (set owners v owner) = slice_get_within (set owners v owner) v o there in
-      let is : owner ≡ o = same_Some owner o (sym (get_set_same owners v owner (let n : length (set owners v owner) ≡ length owners = length-set owners v owner in omega arith)) ∙ there) in
-      subst (λ (k : ℕ). IsOwned jobs new k o) e (subst (λ (x : Owner). IsOwned jobs new v x) is here)
+  | inl e ↦ grind (arith, get_set_same, length-set, same_Some, slice_get_within)
   | inr ne ↦ owned_same jobs past new node o (same node ne) (times node ne) (all node o (sym (get_set_other owners v node owner (λ e. ne (sym e))) ∙ h))
 ]

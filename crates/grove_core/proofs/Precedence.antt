@@ -1,5 +1,6 @@
 -- Times of the steps done, seen apart from any run: what two jobs did with a node that both held.
-use Rattle.std.proofs.Common.{◌≡◌, ◌≢◌, ℕ, zero, suc, ◌<◌, Bool, true, false, ◌&&◌, ltb, List, [], ◌∷◌, length, Some, sym, subst, inl, inr, arith}
+use Rattle.std.proofs.Common.{◌≡◌, ◌≢◌, ℕ, zero, suc, ◌<◌, Bool, false, ◌&&◌, ltb, List, [], ◌∷◌, length, Some, sym}
+use Rattle.std.proofs.Common.{inl, inr, arith}
 use Rattle.std.specs.List.{slice_get}
 use Rattle.std.proofs.lemmas.Option.{none-some}
 use Rattle.std.proofs.lemmas.Bool.{cases_lt, cases_eq, cases_Bool, both_ways, and_parts, and_from, ltb-true, lt-ltb}
@@ -24,10 +25,7 @@ pub unlocked_since : (plan : List Step) (node position i : ℕ) → held plan no
 unlocked_since plan node position i free lt is_lock =
     let test : ℕ → Bool = λ j. ltb i j && unlocks node (slice_get plan j) in
     elim (cases_Bool (any_below position test)) [
-      | inl some ↦
-          let found : (k : ℕ) × (k < position) × (test k ≡ true) = any_true position test some in
-          let parts : (ltb i found.0 ≡ true) × (unlocks node (slice_get plan found.0) ≡ true) = and_parts (ltb i found.0) (unlocks node (slice_get plan found.0)) found.2 in
-          (found.0, ltb-true i found.0 parts.0, found.1, unlocks_true node (slice_get plan found.0) parts.1)
+      | inl some ↦ grind (arith, and_parts, any_true, ltb-true, unlocks_true)
       | inr none ↦ absurd (both_ways (held plan node position) free (held_from plan node position (record {
         at = i;
         before = lt;
@@ -80,13 +78,5 @@ held_order jobs T t u node i j ne a b did_i did_j keeps lt =
           let less : T.time u b.at < T.time t a.at = omega arith in
           let found : (k : ℕ) × (b.at < k) × (k < T.steps_done u) × (slice_get (plan_of jobs u) k ≡ Some (Unlock node)) × (T.time u k < T.time t a.at) =
           T.apart u t b.at a.at node (λ e. ne (sym e)) b.is_lock a.is_lock (omega arith) (omega arith) less in
-          let early : T.time u found.0 < T.time t a.at = found.4 in
-          let own : T.time t a.at < T.time t i = T.grows t a.at i a_lt did_i in
-          elim (cases_lt found.0 j) [
-            | inl y ↦ absurd (b.kept found.0 found.1 y found.3)
-            | inr y ↦ elim (cases_eq j found.0) [
-              | inl e ↦ absurd (keeps (subst (λ (k : ℕ). slice_get (plan_of jobs u) k ≡ Some (Unlock node)) (sym e) found.3))
-              | inr other ↦ let later : T.time u j < T.time u found.0 = T.grows u j found.0 (omega arith) found.2 in absurd (omega arith)
-            ]
-          ]
+          grind (arith, cases_eq, cases_lt)
     ]

@@ -1,5 +1,5 @@
 -- What is refused may not happen, and each refusal has one reason.
-use Rattle.std.proofs.Common.{◌≡◌, ℕ, ◌<◌, ◌≤◌, List, length, Some, None, refl, sym, ◌∙◌, ap, inl, inr, arith}
+use Rattle.std.proofs.Common.{◌≡◌, ℕ, ◌<◌, ◌≤◌, List, length, Some, None, refl, sym, ◌∙◌, ap, arith}
 use Rattle.std.proofs.lemmas.Option.{none-some, same_Some}
 use Rattle.std.proofs.lemmas.Bool.{cases_order, both_ways}
 use Rattle.grove_tree.specs.Trees.{Rows}
@@ -12,7 +12,7 @@ use Rattle.grove_core.specs.declared.event.Event.{Event}
 use Rattle.grove_core.specs.declared.event.Event.TheVariants.{Take, Mark}
 use Rattle.grove_core.specs.declared.fault.StepFault.TheVariants.{NoTxn, Ended, Blocked, NotBlocked, Marked}
 use Rattle.grove_core.specs.declared.fault.OpenFault.TheVariants.{BadPlan, Memory}
-use Rattle.grove_core.specs.Runs.{steps_done, next_step, holds, is_marked, IsRun, IsFree, IsBlocked, job_of}
+use Rattle.grove_core.specs.Runs.{steps_done, next_step, is_marked, IsRun, IsFree, IsBlocked, job_of}
 use Rattle.grove_core.specs.Openings.{job_fault}
 use Rattle.grove_core.specs.FaultLaws.{RefusedMayNot, RefusedForOne, FirstFaultIsOne}
 use Rattle.grove_core.proofs.Precedence.{within_jobs}
@@ -34,14 +34,11 @@ goes_on jobs past t s next ended = none-some s (sym ended ∙ next)
 -- a node that another job holds isn't free
 blocked_not_free : (jobs : List Job) (past : List Event) (t holder : ℕ) (s : Step) → IsBlocked jobs past t holder → next_step jobs past t ≡ Some s
     → ((node : ℕ) → s ≡ Lock node → IsFree jobs past t node) → ⊥
-blocked_not_free jobs past t holder s blocked next free =
-    both_ways (holds jobs past holder blocked.0) (free blocked.0 (same_Some s (Lock blocked.0) (sym next ∙ blocked.1)) holder blocked.2.0) blocked.2.1
+blocked_not_free jobs past t holder s blocked next free = grind (arith, both_ways, same_Some)
 
 -- the job that holds the node is one
 blocked_by_one : (jobs : List Job) (past : List Event) → IsRun jobs past → (t one other : ℕ) → IsBlocked jobs past t one → IsBlocked jobs past t other → one ≡ other
-blocked_by_one jobs past run t one other a b =
-    let same : a.0 ≡ b.0 = lock_same a.0 b.0 (same_Some (Lock a.0) (Lock b.0) (sym a.1 ∙ b.1)) in
-    one_holder jobs past run one other b.0 (ap (λ (n : ℕ). holds jobs past one n) (sym same) ∙ a.2.1) b.2.1
+blocked_by_one jobs past run t one other a b = grind (arith, lock_same, one_holder, same_Some)
 
 -- What is refused may not happen
 
@@ -114,12 +111,5 @@ not_before rows jobs t u fault lt is none = none-some fault (sym (none t lt) ∙
 pub first_fault_is_one : FirstFaultIsOne
 first_fault_is_one rows jobs Memory other ne_one ne_other a b = absurd (ne_one refl)
 first_fault_is_one rows jobs (BadPlan t f) Memory ne_one ne_other a b = absurd (ne_other refl)
-first_fault_is_one rows jobs (BadPlan t f) (BadPlan u g) ne_one ne_other a b = elim (cases_order t u) [
-  | inl e ↦
-      let same : f ≡ g = same_Some f g (sym a.1 ∙ ap (λ (k : ℕ). job_fault rows jobs k) e ∙ b.1) in
-      cc
-  | inr differ ↦ elim differ [
-    | inl before ↦ absurd (not_before rows jobs t u f before a.1 b.2)
-    | inr after ↦ absurd (not_before rows jobs u t g after b.1 a.2)
-  ]
-]
+first_fault_is_one rows jobs (BadPlan t f) (BadPlan u g) ne_one ne_other a b =
+    grind (arith, cases_order, not_before, same_Some)

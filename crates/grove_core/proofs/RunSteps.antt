@@ -1,11 +1,11 @@
 -- What one more event makes of a run: lock times, records and replies.
-use Rattle.std.proofs.Common.{◌≡◌, ◌≢◌, ℕ, zero, suc, ℤ, false, ◌&&◌, eqb, List, [], ◌∷◌, ◌++◌, length, Option, Some, None, refl, ◌∙◌, ap}
+use Rattle.std.proofs.Common.{◌≡◌, ◌≢◌, ℕ, zero, suc, ℤ, false, eqb, List, [], ◌∷◌, ◌++◌, length, Option, Some, None}
+use Rattle.std.proofs.Common.{refl, ◌∙◌, ap, arith}
 use Rattle.std.specs.List.{slice_get}
 use Rattle.std.proofs.lemmas.List.{append-nil, length-set}
 use Rattle.std.proofs.lemmas.Option.{none-some, same_Some}
 use Rattle.std.proofs.lemmas.Bool.{eq-eqb, ne_eqb, cond-true, cond-false, and_from, and_left, and_right}
 use Rattle.grove_access.specs.declared.access.Access.{Access}
-use Rattle.grove_access.specs.declared.reply.Reply.{Reply}
 use Rattle.grove_access.specs.Effects.{changed_by, reply_to}
 use Rattle.grove_plan.specs.declared.step.Step.{Step}
 use Rattle.grove_plan.specs.declared.step.Step.TheVariants.{Lock, Unlock}
@@ -41,19 +41,15 @@ deeds_length (d ∷ ds) records = deeds_length ds (changed_by d.access records) 
 
 -- a step that doesn't lock a node leaves its lock times
 pub lock_time_kept : (jobs : List Job) (past : List Event) (u t node : ℕ) → locks node (next_step jobs past u) ≡ false → lock_time jobs (Take u ∷ past) t node ≡ lock_time jobs past t node
-lock_time_kept jobs past u t node h =
-    cond-false (eqb u t && locks node (next_step jobs past u)) (Some (length past)) (lock_time jobs past t node) (and_right (eqb u t) (locks node (next_step jobs past u)) h)
+lock_time_kept jobs past u t node h = grind (arith, and_right, cond-false)
 
 -- another job's step leaves a job's
 pub lock_time_other : (jobs : List Job) (past : List Event) (u t node : ℕ) → u ≢ t → lock_time jobs (Take u ∷ past) t node ≡ lock_time jobs past t node
-lock_time_other jobs past u t node ne =
-    cond-false (eqb u t && locks node (next_step jobs past u)) (Some (length past)) (lock_time jobs past t node) (and_left (eqb u t) (locks node (next_step jobs past u)) (ne_eqb u t ne))
+lock_time_other jobs past u t node ne = grind (arith, and_left, cond-false, ne_eqb)
 
 -- a lock gets the time of its event
 pub lock_time_new : (jobs : List Job) (past : List Event) (t node : ℕ) → next_step jobs past t ≡ Some (Lock node) → lock_time jobs (Take t ∷ past) t node ≡ Some (length past)
-lock_time_new jobs past t node h =
-    cond-true (eqb t t && locks node (next_step jobs past t)) (Some (length past)) (lock_time jobs past t node)
-    (and_from (eqb t t) (locks node (next_step jobs past t)) (eq-eqb t t refl) (locks_from node (next_step jobs past t) h))
+lock_time_new jobs past t node h = grind (arith, and_from, cond-true, eq-eqb, locks_from)
 
 -- the lock of one node is none of another
 pub locks_lock : (node v : ℕ) (o : Option Step) → o ≡ Some (Lock v) → v ≢ node → locks node o ≡ false
@@ -81,9 +77,7 @@ accessed jobs past t n visit e f = ap (deed_of t (list_of jobs t)) e ∙ ap (dee
 -- an access changes the records
 pub accessed_records : (jobs : List Job) (opening : List ℤ) (past : List Event) (t n : ℕ) (visit : Access) → next_step jobs past t ≡ Some (plan_step.Access n) → slice_get (list_of jobs t) n ≡ Some visit
     → run_records jobs opening (Take t ∷ past) ≡ changed_by visit (run_records jobs opening past)
-accessed_records jobs opening past t n visit e f =
-    ap (λ (ds : List Deed). deeds_records (deeds jobs past ++ ds) opening) (accessed jobs past t n visit e f)
-    ∙ deeds_records-append (deeds jobs past) (deed_by t visit ∷ []) opening
+accessed_records jobs opening past t n visit e f = grind (arith, accessed, deeds_records-append)
 
 reply_shown : (t u : ℕ) (visit : Access) (records : List ℤ) → t ≡ u → deeds_replies (deed_by t visit ∷ []) records u ≡ reply_to visit records ∷ []
 reply_shown t u visit records e = cond-true (eqb t u) (reply_to visit records ∷ []) [] (eq-eqb t u e)
@@ -94,10 +88,7 @@ reply_hidden t u visit records ne = cond-false (eqb t u) (reply_to visit records
 -- and has a reply on them
 pub accessed_replies : (jobs : List Job) (opening : List ℤ) (past : List Event) (t n : ℕ) (visit : Access) → next_step jobs past t ≡ Some (plan_step.Access n) → slice_get (list_of jobs t) n ≡ Some visit
     → run_replies jobs opening (Take t ∷ past) t ≡ run_replies jobs opening past t ++ reply_to visit (run_records jobs opening past) ∷ []
-accessed_replies jobs opening past t n visit e f =
-    ap (λ (ds : List Deed). deeds_replies (deeds jobs past ++ ds) opening t) (accessed jobs past t n visit e f)
-    ∙ deeds_replies-append (deeds jobs past) (deed_by t visit ∷ []) opening t
-    ∙ ap (λ (rs : List Reply). run_replies jobs opening past t ++ rs) (reply_shown t t visit (run_records jobs opening past) refl)
+accessed_replies jobs opening past t n visit e f = grind (arith, accessed, deeds_replies-append, reply_shown)
 
 -- another job's step adds no reply
 hidden_at : (t u : ℕ) (o : Option Access) (records : List ℤ) → t ≢ u → deeds_replies (deed_at t o) records u ≡ []
@@ -112,7 +103,4 @@ hidden_of t u list (Some (plan_step.Access n)) records ne = hidden_at t u (slice
 
 -- another job's step leaves a job's replies
 pub other_replies : (jobs : List Job) (opening : List ℤ) (past : List Event) (t u : ℕ) → t ≢ u → run_replies jobs opening (Take t ∷ past) u ≡ run_replies jobs opening past u
-other_replies jobs opening past t u ne =
-    deeds_replies-append (deeds jobs past) (deed_of t (list_of jobs t) (next_step jobs past t)) opening u
-    ∙ ap (λ (rs : List Reply). run_replies jobs opening past u ++ rs) (hidden_of t u (list_of jobs t) (next_step jobs past t) (run_records jobs opening past) ne)
-    ∙ append-nil (run_replies jobs opening past u)
+other_replies jobs opening past t u ne = grind (arith, append-nil, deeds_replies-append, hidden_of)

@@ -1,5 +1,5 @@
 -- A finished run is serial by the placement order.
-use Rattle.std.proofs.Common.{◌≡◌, ℕ, ◌<◌, Bool, List, length, take, sym, ◌∙◌, ap, inl, inr, arith}
+use Rattle.std.proofs.Common.{◌≡◌, ℕ, ◌<◌, Bool, List, length, sym, ◌∙◌, ap, arith}
 use Rattle.std.proofs.lemmas.Bool.{cases_lt}
 use Rattle.std.proofs.Math.Seq.{take-length}
 use Rattle.grove_tree.specs.Trees.{Rows, IsTree}
@@ -7,7 +7,7 @@ use Rattle.grove_plan.specs.declared.step.Step.TheVariants.{Access}
 use Rattle.grove_core.specs.declared.job.Job.{Job}
 use Rattle.grove_core.specs.declared.event.Event.{Event}
 use Rattle.grove_core.specs.Serial.{Deed, deeds_records, deeds_replies}
-use Rattle.grove_core.specs.Runs.{list_of, plan_of, AllLegal, IsRun, IsFinished, deeds}
+use Rattle.grove_core.specs.Runs.{list_of, AllLegal, IsRun, IsFinished, deeds}
 use Rattle.grove_core.specs.Orders.{locked_after, order_by, placement_order}
 use Rattle.grove_core.specs.Laws.{IsEachOnce, RunsAreSerial}
 use Rattle.grove_core.proofs.ConflictEquivalence.{Same, Among, AllDeeds, all_map, own, dealt, serialized}
@@ -21,40 +21,24 @@ use Rattle.grove_core.proofs.OwnAccesses.{kept_run, did, whole_plan}
 
 -- the order has each job once, whatever the test
 pub order_each_once : (rows : Rows) → IsTree rows → (jobs : List Job) → AllLegal rows jobs → (after : ℕ → ℕ → Bool) → IsEachOnce (order_by rows jobs after) (length jobs)
-order_each_once rows tree jobs legal after =
-    is_each_once (order_by rows jobs after) (length jobs) (order_once rows tree jobs legal after) (order_past rows tree jobs legal after)
+order_each_once rows tree jobs legal after = grind (arith, is_each_once, order_once, order_past)
 
 -- and so no job twice
 order_has_once : (rows : Rows) → IsTree rows → (jobs : List Job) → AllLegal rows jobs → (after : ℕ → ℕ → Bool) → Once (order_by rows jobs after)
-order_has_once rows tree jobs legal after = once_from (order_by rows jobs after) (λ t. elim (cases_lt t (length jobs)) [
-  | inl lt ↦ let one : times t (order_by rows jobs after) ≡ 1 = order_once rows tree jobs legal after t lt in omega arith
-  | inr le ↦ let none : times t (order_by rows jobs after) ≡ 0 = order_past rows tree jobs legal after t le in omega arith
-])
+order_has_once rows tree jobs legal after = grind (arith, cases_lt, once_from, order_once, order_past, times)
 
 -- each job that is there stands in it
 pub order_among : (rows : Rows) → IsTree rows → (jobs : List Job) → AllLegal rows jobs → (after : ℕ → ℕ → Bool) (t : ℕ) → t < length jobs → Among t (order_by rows jobs after)
-order_among rows tree jobs legal after t lt =
-    let one : times t (order_by rows jobs after) ≡ 1 = order_once rows tree jobs legal after t lt in
-    times_among t (order_by rows jobs after) (omega arith)
+order_among rows tree jobs legal after t lt = grind (arith, order_once, times, times_among)
 
 -- and no other
 order_within : (rows : Rows) → IsTree rows → (jobs : List Job) → AllLegal rows jobs → (after : ℕ → ℕ → Bool) (t : ℕ) → Among t (order_by rows jobs after) → t < length jobs
-order_within rows tree jobs legal after t h = elim (cases_lt t (length jobs)) [
-  | inl lt ↦ lt
-  | inr le ↦
-      let none : times t (order_by rows jobs after) ≡ 0 = order_past rows tree jobs legal after t le in
-      let some : 0 < times t (order_by rows jobs after) = among_times t (order_by rows jobs after) h in
-      absurd (omega arith)
-]
+order_within rows tree jobs legal after t h = grind (arith, among_times, cases_lt, order_past)
 
 -- in a finished run a job has done its list
 kept_list : (rows : Rows) (jobs : List Job) → AllLegal rows jobs → (past : List Event) → IsRun jobs past → IsFinished jobs past → (t : ℕ) → t < length jobs
     → own t (deeds jobs past) ≡ stamped t (list_of jobs t)
-kept_list rows jobs legal past run finished t lt =
-    kept_run jobs past run t
-    ∙ ap (λ (n : ℕ). did t (list_of jobs t) (take n (plan_of jobs t))) (finished t lt)
-    ∙ ap (did t (list_of jobs t)) (take-length (plan_of jobs t))
-    ∙ whole_plan rows (list_of jobs t) (plan_of jobs t) (legal t lt) t
+kept_list rows jobs legal past run finished t lt = grind (arith, did, kept_run, take-length, whole_plan)
 
 -- a finished run is the serial run of its order
 pub runs_are_serial : RunsAreSerial

@@ -32,37 +32,27 @@ steps_other past u t ne = cond-false (eqb u t) (suc (steps_done past t)) (steps_
 
 -- a done step is the newest event or an older one
 pub came : (past : List Event) (u t i : ℕ) → i < steps_done (Take u ∷ past) t → (i < steps_done past t) ⊎ ((u ≡ t) × (i ≡ steps_done past t))
-came past u t i lt = elim (cases_eq u t) [
-  | inl e ↦ let n : steps_done (Take u ∷ past) t ≡ suc (steps_done past t) = steps_new past u t e in
-      elim (cases_lt i (steps_done past t)) [ inl y ↦ inl y | inr y ↦ inr (e, omega arith) ]
-  | inr ne ↦ let n : steps_done (Take u ∷ past) t ≡ steps_done past t = steps_other past u t ne in inl (omega arith)
-]
+came past u t i lt = grind (arith, cases_eq, cases_lt, steps_new, steps_other)
 
 -- no event takes a job back
 pub steps_old : (e : Event) (past : List Event) (t : ℕ) → steps_done past t ≤ steps_done (e ∷ past) t
-steps_old (Take u) past t = elim (cases_eq u t) [
-  | inl e ↦ let n : steps_done (Take u ∷ past) t ≡ suc (steps_done past t) = steps_new past u t e in omega arith
-  | inr ne ↦ let n : steps_done (Take u ∷ past) t ≡ steps_done past t = steps_other past u t ne in omega arith
-]
+steps_old (Take u) past t = grind (arith, cases_eq, steps_new, steps_other)
 steps_old (Mark u) past t = omega arith
 
 -- an older step keeps its time
 pub time_old : (e : Event) (past : List Event) (t i : ℕ) → i < steps_done past t → time (e ∷ past) t i ≡ time past t i
-time_old (Take u) past t i lt =
-    cond-false (eqb u t && eqb i (steps_done past t)) (length past) (time past t i) (and_right (eqb u t) (eqb i (steps_done past t)) (ne_eqb i (steps_done past t) (λ e. omega arith)))
+time_old (Take u) past t i lt = grind (arith, and_right, cond-false, ne_eqb)
 time_old (Mark u) past t i lt = refl
 
 -- the newest step has the newest time
 pub time_new : (past : List Event) (u t i : ℕ) → u ≡ t → i ≡ steps_done past t → time (Take u ∷ past) t i ≡ length past
-time_new past u t i e f =
-    cond-true (eqb u t && eqb i (steps_done past t)) (length past) (time past t i) (and_from (eqb u t) (eqb i (steps_done past t)) (eq-eqb u t e) (eq-eqb i (steps_done past t) f))
+time_new past u t i e f = grind (arith, and_from, cond-true, eq-eqb)
 
 -- a done step came before now
 pub time_within : (past : List Event) (t i : ℕ) → i < steps_done past t → time past t i < length past
 time_within [] t i lt = absurd (omega arith)
 time_within (Take u ∷ past) t i lt = elim (came past u t i lt) [
-  | inl old ↦ let e : time (Take u ∷ past) t i ≡ time past t i = time_old (Take u) past t i old in
-      let h : time past t i < length past = time_within past t i old in omega arith
+  | inl old ↦ omega (arith, time_old (Take u) past t i old, time_within past t i old)
   | inr new ↦ let e : time (Take u ∷ past) t i ≡ length past = time_new past u t i new.0 new.1 in omega arith
 ]
 time_within (Mark u ∷ past) t i lt = let h : time past t i < length past = time_within past t i lt in omega arith
@@ -71,13 +61,8 @@ time_within (Mark u ∷ past) t i lt = let h : time past t i < length past = tim
 pub time_grows : (past : List Event) (t i j : ℕ) → i < j → j < steps_done past t → time past t i < time past t j
 time_grows [] t i j less lt = absurd (omega arith)
 time_grows (Take u ∷ past) t i j less lt = elim (came past u t j lt) [
-  | inl old ↦ let e : time (Take u ∷ past) t i ≡ time past t i = time_old (Take u) past t i (omega arith) in
-      let f : time (Take u ∷ past) t j ≡ time past t j = time_old (Take u) past t j old in
-      let h : time past t i < time past t j = time_grows past t i j less old in omega arith
-  | inr new ↦ let n : j ≡ steps_done past t = new.1 in
-      let e : time (Take u ∷ past) t i ≡ time past t i = time_old (Take u) past t i (omega arith) in
-      let f : time (Take u ∷ past) t j ≡ length past = time_new past u t j new.0 new.1 in
-      let h : time past t i < length past = time_within past t i (omega arith) in omega arith
+  | inl old ↦ grind (arith, time_old, time_grows past t i j less old)
+  | inr new ↦ grind (arith, time_new, time_old, time_within)
 ]
 time_grows (Mark u ∷ past) t i j less lt = time_grows past t i j less lt
 
@@ -93,13 +78,7 @@ times_differ (Take w ∷ past) t u i j ne lt less = elim (came past w t i lt) [
             λ same. times_differ past t u i j ne old older (sym e ∙ same ∙ f)
         | inr new ↦ let f : time (Take w ∷ past) u j ≡ length past = time_new past w u j new.0 new.1 in λ same. omega arith
       ]
-  | inr new ↦
-      let e : time (Take w ∷ past) t i ≡ length past = time_new past w t i new.0 new.1 in
-      elim (came past w u j less) [
-        | inl older ↦ let f : time (Take w ∷ past) u j ≡ time past u j = time_old (Take w) past u j older in
-            let h : time past u j < length past = time_within past u j older in λ same. omega arith
-        | inr newer ↦ absurd (ne (sym new.0 ∙ newer.0))
-      ]
+  | inr new ↦ grind (arith, came, time_new, time_old, time_within)
 ]
 times_differ (Mark w ∷ past) t u i j ne lt less = times_differ past t u i j ne lt less
 
@@ -113,12 +92,7 @@ pub record Unlocked (jobs : List Job) (past : List Event) (t i node before : ℕ
 
 unlocked_old : (jobs : List Job) (e : Event) (past : List Event) (t i node before more : ℕ) → before ≤ more → Unlocked jobs past t i node before
     → Unlocked jobs (e ∷ past) t i node more
-unlocked_old jobs e past t i node before more le h =
-    let grow : steps_done past t ≤ steps_done (e ∷ past) t = steps_old e past t in
-    let same : time (e ∷ past) t h.at ≡ time past t h.at = time_old e past t h.at h.done in
-    let lt : h.at < steps_done past t = h.done in
-    let early : time past t h.at < before = h.early in
-    record { at = h.at; after = h.after; done = omega arith; is_unlock = h.is_unlock; early = omega arith }
+unlocked_old jobs e past t i node before more le h = grind (arith, steps_old, time_old)
 
 -- what a step is, seen through an equation of jobs and places
 step_at : (jobs : List Job) (past : List Event) (w u j : ℕ) (s : Step) → w ≡ u → j ≡ steps_done past u → slice_get (plan_of jobs u) j ≡ Some s → next_step jobs past w ≡ Some s
@@ -148,12 +122,7 @@ exclusive jobs (Take w ∷ past) run t u i j node ne h k did_i did_j lt = elim (
       let same : steps_done (Take w ∷ past) t ≡ steps_done past t = steps_other past w t other in
       let is_step : run.0.0 ≡ Lock node = same_Some run.0.0 (Lock node) (sym run.0.1 ∙ step_at jobs past w u j (Lock node) new_j.0 new_j.1 k) in
       let free : holds jobs past t node ≡ false = run.0.2 node is_step t (λ e. other (sym e)) in
-      let found : (n : ℕ) × (i < n) × (n < steps_done past t) × (slice_get (plan_of jobs t) n ≡ Some (Unlock node)) =
-      unlocked_since (plan_of jobs t) node (steps_done past t) i free (omega arith) h in
-      let done : found.0 < steps_done past t = found.2 in
-      let within : time past t found.0 < length past = time_within past t found.0 found.2 in
-      let e : time (Take w ∷ past) t found.0 ≡ time past t found.0 = time_old (Take w) past t found.0 found.2 in
-      record { at = found.0; after = found.1; done = omega arith; is_unlock = found.3; early = omega arith }
+      grind (arith, time_old, time_within, unlocked_since)
 ]
 
 -- the times of a run
@@ -175,22 +144,11 @@ lock_time_is jobs [] t node s h = absurd (none-some s h)
 lock_time_is jobs (Mark u ∷ past) t node s h = lock_time_is jobs past t node s h
 lock_time_is jobs (Take u ∷ past) t node s h =
     elim (cases_Bool (eqb u t && locks node (next_step jobs past u))) [
-      | inl yes' ↦
-          let parts : (eqb u t ≡ true) × (locks node (next_step jobs past u) ≡ true) = and_parts (eqb u t) (locks node (next_step jobs past u)) yes' in
-          let e : u ≡ t = eqb-true u t parts.0 in
-          let lt : steps_done past t < steps_done (Take u ∷ past) t = let n : steps_done (Take u ∷ past) t ≡ suc (steps_done past t) = steps_new past u t e in omega arith in (
-            steps_done past t,
-            ap (λ (k : ℕ). next_step jobs past k) (sym e) ∙ locks_true node (next_step jobs past u) parts.1,
-            lt,
-            time_new past u t (steps_done past t) e refl
-                ∙ same_Some (length past) s (sym (cond-true (eqb u t && locks node (next_step jobs past u)) (Some (length past)) (lock_time jobs past t node) yes') ∙ h),
-          )
+      | inl yes' ↦ grind (arith, and_parts, cond-true, eqb-true, locks_true, same_Some, steps_new, time_new)
       | inr no' ↦
           let found : (i : ℕ) × (slice_get (plan_of jobs t) i ≡ Some (Lock node)) × (i < steps_done past t) × (time past t i ≡ s) =
           lock_time_is jobs past t node s (sym (cond-false (eqb u t && locks node (next_step jobs past u)) (Some (length past)) (lock_time jobs past t node) no') ∙ h) in
-          let lt : found.0 < steps_done past t = found.2 in
-          let grow : steps_done past t ≤ steps_done (Take u ∷ past) t = steps_old (Take u) past t in
-          (found.0, found.1, omega arith, time_old (Take u) past t found.0 found.2 ∙ found.3)
+          grind (arith, steps_old, time_old)
     ]
 
 -- a lock that was done has the time of its step
@@ -200,19 +158,12 @@ lock_time_did jobs t node once [] i h lt = absurd (omega arith)
 lock_time_did jobs t node once (Mark u ∷ past) i h lt = lock_time_did jobs t node once past i h lt
 lock_time_did jobs t node once (Take u ∷ past) i h lt =
     elim (cases_Bool (eqb u t && locks node (next_step jobs past u))) [
-      | inl yes' ↦
-          let parts : (eqb u t ≡ true) × (locks node (next_step jobs past u) ≡ true) = and_parts (eqb u t) (locks node (next_step jobs past u)) yes' in
-          let e : u ≡ t = eqb-true u t parts.0 in
-          let at : i ≡ steps_done past t = once i (steps_done past t) h (ap (λ (k : ℕ). next_step jobs past k) (sym e) ∙ locks_true node (next_step jobs past u) parts.1) in
-          cond-true (eqb u t && locks node (next_step jobs past u)) (Some (length past)) (lock_time jobs past t node) yes'
-          ∙ ap (λ (k : ℕ). Some k) (sym (time_new past u t i e at))
+      | inl yes' ↦ grind (arith, and_parts, cond-true, eqb-true, locks_true, time_new)
       | inr no' ↦
           cond-false (eqb u t && locks node (next_step jobs past u)) (Some (length past)) (lock_time jobs past t node) no'
           ∙ elim (came past u t i lt) [
             | inl old ↦ lock_time_did jobs t node once past i h old ∙ ap (λ (k : ℕ). Some k) (sym (time_old (Take u) past t i old))
-            | inr new ↦ absurd (both_ways (eqb u t && locks node (next_step jobs past u)) no'
-                (and_from (eqb u t) (locks node (next_step jobs past u)) (eq-eqb u t new.0)
-                (locks_from node (next_step jobs past u) (step_at jobs past u t i (Lock node) new.0 new.1 h))))
+            | inr new ↦ grind (arith, and_from, both_ways, eq-eqb, locks_from, step_at)
           ]
     ]
 
@@ -242,10 +193,5 @@ run_tests rows jobs legal past run = record {
         second = record { at = b.0; is_lock = b.1; done = b.2 };
         earlier = omega arith;
       };
-  complete = λ t u f first before.
-      ap (locked_after_at jobs past t u) first
-      ∙ earlier_from (lock_time jobs past t f) (lock_time jobs past u f) (time past t before.first.at) (time past u before.second.at)
-      (lock_time_did jobs t f (λ i j h k. (legal t (within_jobs jobs t i (Lock f) h)).obeys.once i j f h k) past before.first.at before.first.is_lock before.first.done)
-      (lock_time_did jobs u f (λ i j h k. (legal u (within_jobs jobs u i (Lock f) h)).obeys.once i j f h k) past before.second.at before.second.is_lock before.second.done)
-      before.earlier;
+  complete = grind (arith, earlier_from, lock_time_did, within_jobs);
 }

@@ -93,33 +93,10 @@ time_pending past t i le = cond-false (ltb i (steps_done past t)) (time past t i
 
 ahead_grows : (jobs : List Job) (past : List Event) (t i j : ℕ) → i < j → j < steps_ahead jobs past t → time_ahead past t i < time_ahead past t j
 ahead_grows jobs past t i j less lt =
-    let bound : steps_ahead jobs past t ≤ suc (steps_done past t) = step_more_le (unfinished jobs past t) (steps_done past t) in
-    let e : time_ahead past t i ≡ time past t i = time_done past t i (omega arith) in
-    elim (cases_lt j (steps_done past t)) [
-      | inl y ↦ let f : time_ahead past t j ≡ time past t j = time_done past t j y in
-          let g : time past t i < time past t j = time_grows past t i j less y in omega arith
-      | inr y ↦ let f : time_ahead past t j ≡ length past + t = time_pending past t j y in
-          let g : time past t i < length past = time_within past t i (omega arith) in omega arith
-    ]
+    grind (arith, cases_lt, step_more_le, time, time_done, time_grows, time_pending, time_within)
 
 ahead_differ : (past : List Event) (t u i j : ℕ) → t ≢ u → time_ahead past t i ≢ time_ahead past u j
-ahead_differ past t u i j ne = elim (cases_lt i (steps_done past t)) [
-  | inl y ↦
-      let e : time_ahead past t i ≡ time past t i = time_done past t i y in
-      let w : time past t i < length past = time_within past t i y in
-      elim (cases_lt j (steps_done past u)) [
-        | inl z ↦ let f : time_ahead past u j ≡ time past u j = time_done past u j z in
-            λ same. times_differ past t u i j ne y z (sym e ∙ same ∙ f)
-        | inr z ↦ let f : time_ahead past u j ≡ length past + u = time_pending past u j z in λ same. omega arith
-      ]
-  | inr y ↦
-      let e : time_ahead past t i ≡ length past + t = time_pending past t i y in
-      elim (cases_lt j (steps_done past u)) [
-        | inl z ↦ let f : time_ahead past u j ≡ time past u j = time_done past u j z in
-            let w : time past u j < length past = time_within past u j z in λ same. omega arith
-        | inr z ↦ let f : time_ahead past u j ≡ length past + u = time_pending past u j z in λ same. ne (omega arith)
-      ]
-]
+ahead_differ past t u i j ne = grind (arith, cases_lt, time, time_done, time_pending, time_within, times_differ)
 
 unfoldable ahead : (jobs : List Job) (past : List Event) → IsRun jobs past → Timing jobs
 ahead jobs past run = record {

@@ -1,11 +1,12 @@
 -- Deeds dealt out by an order, where each job has done its list, are the serial run of the lists.
-use Rattle.std.proofs.Common.{◌≡◌, ◌≢◌, ℕ, ℤ, Bool, true, false, cond, eqb, List, [], ◌∷◌, ◌++◌, refl, sym, ◌∙◌, ap, subst, inl, inr}
+use Rattle.std.proofs.Common.{◌≡◌, ◌≢◌, ℕ, ℤ, Bool, true, false, cond, eqb, List, [], ◌∷◌, ◌++◌, refl, sym, ◌∙◌, ap}
+use Rattle.std.proofs.Common.{subst, inl, inr, arith}
 use Rattle.std.specs.Bool.{⊤}
 use Rattle.std.proofs.lemmas.List.{append-nil}
 use Rattle.std.proofs.lemmas.Bool.{eqb-true, ne_eqb, eq-eqb, cases_eq, cond-true, cond-false}
 use Rattle.grove_access.specs.declared.access.Access.{Access}
 use Rattle.grove_access.specs.declared.reply.Reply.{Reply}
-use Rattle.grove_access.specs.Effects.{changed_by, reply_to, records_after, replies_to}
+use Rattle.grove_access.specs.Effects.{changed_by, records_after, replies_to}
 use Rattle.grove_core.specs.Serial.{Deed, deeds_records, deeds_replies, serial_records, serial_replies}
 use Rattle.grove_core.proofs.ConflictEquivalence.{Among, kept_if, left_if, own, others, dealt}
 
@@ -38,8 +39,7 @@ pub deeds_replies-append : (a b : List Deed) (start : List ℤ) (t : ℕ)
     → deeds_replies (a ++ b) start t ≡ deeds_replies a start t ++ deeds_replies b (deeds_records a start) t
 deeds_replies-append [] b start t = refl
 deeds_replies-append (d ∷ a) b start t =
-    ap (λ (rs : List Reply). cond (eqb d.job t) (reply_to d.access start ∷ rs) rs) (deeds_replies-append a b (changed_by d.access start) t)
-    ∙ cond_append (eqb d.job t) (reply_to d.access start) (deeds_replies a (changed_by d.access start) t) (deeds_replies b (deeds_records a (changed_by d.access start)) t)
+    grind (arith, cond_append, deeds_replies-append a b (changed_by d.access start) t)
 
 stamped_records : (t : ℕ) (list : List Access) (start : List ℤ) → deeds_records (stamped t list) start ≡ records_after list start
 stamped_records t [] start = refl
@@ -48,22 +48,18 @@ stamped_records t (access ∷ list) start = stamped_records t list (changed_by a
 stamped_own : (b : Bool) → b ≡ true → (t u : ℕ) → eqb t u ≡ b → (list : List Access) (start : List ℤ) → deeds_replies (stamped t list) start u ≡ replies_to list start
 stamped_own b yes' t u e [] start = refl
 stamped_own b yes' t u e (access ∷ list) start =
-    cond-true (eqb t u) (reply_to access start ∷ deeds_replies (stamped t list) (changed_by access start) u) (deeds_replies (stamped t list) (changed_by access start) u) (e ∙ yes')
-    ∙ ap (λ (rs : List Reply). reply_to access start ∷ rs) (stamped_own b yes' t u e list (changed_by access start))
+    grind (arith, cond-true, stamped_own b yes' t u e list (changed_by access start))
 
 stamped_other : (t u : ℕ) → eqb t u ≡ false → (list : List Access) (start : List ℤ) → deeds_replies (stamped t list) start u ≡ []
 stamped_other t u e [] start = refl
 stamped_other t u e (access ∷ list) start =
-    cond-false (eqb t u) (reply_to access start ∷ deeds_replies (stamped t list) (changed_by access start) u) (deeds_replies (stamped t list) (changed_by access start) u) e
-    ∙ stamped_other t u e list (changed_by access start)
+    grind (arith, cond-false, stamped_other t u e list (changed_by access start))
 
 -- the records of whole lists
 pub whole_records : (lists : ℕ → List Access) (order : List ℕ) (start : List ℤ) → deeds_records (whole lists order) start ≡ serial_records lists order start
 whole_records lists [] start = refl
 whole_records lists (t ∷ order) start =
-    deeds_records-append (stamped t (lists t)) (whole lists order) start
-    ∙ ap (λ (r : List ℤ). deeds_records (whole lists order) r) (stamped_records t (lists t) start)
-    ∙ whole_records lists order (records_after (lists t) start)
+    grind (arith, deeds_records-append, stamped_records, whole_records lists order (records_after (lists t) start))
 
 -- a job that isn't there has no replies
 whole_none : (lists : ℕ → List Access) (order : List ℕ) (u : ℕ) → (Among u order → ⊥) → (start : List ℤ) → deeds_replies (whole lists order) start u ≡ []
@@ -78,13 +74,8 @@ pub whole_replies : (lists : ℕ → List Access) (order : List ℕ) → Once or
     → deeds_replies (whole lists order) start u ≡ serial_replies lists order start u
 whole_replies lists [] once start u = refl
 whole_replies lists (t ∷ order) once start u =
-    deeds_replies-append (stamped t (lists t)) (whole lists order) start u
-    ∙ elim (cases_eq t u) [
-      | inl e ↦
-          ap (λ (rs : List Reply). rs ++ deeds_replies (whole lists order) (deeds_records (stamped t (lists t)) start) u) (stamped_own true refl t u (eq-eqb t u e) (lists t) start)
-          ∙ ap (λ (rs : List Reply). replies_to (lists t) start ++ rs) (whole_none lists order u (λ later. once.0 (subst (λ (k : ℕ). Among k order) (sym e) later)) (deeds_records (stamped t (lists t)) start))
-          ∙ append-nil (replies_to (lists t) start)
-          ∙ sym (cond-true (eqb t u) (replies_to (lists t) start) (serial_replies lists order (records_after (lists t) start) u) (eq-eqb t u e))
+    deeds_replies-append (stamped t (lists t)) (whole lists order) start u ∙ elim (cases_eq t u) [
+      | inl e ↦ grind (arith, append-nil, cond-true, eq-eqb, stamped_own, whole_none)
       | inr ne ↦
           ap (λ (rs : List Reply). rs ++ deeds_replies (whole lists order) (deeds_records (stamped t (lists t)) start) u) (stamped_other t u (ne_eqb t u ne) (lists t) start)
           ∙ ap (λ (r : List ℤ). deeds_replies (whole lists order) r u) (stamped_records t (lists t) start)

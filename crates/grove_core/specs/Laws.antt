@@ -22,8 +22,7 @@ pub record IsEachOnce (order : List ℕ) (n : ℕ) : Type 0 where
 
 abbrev pub RunsAreSerial : Type 0
 RunsAreSerial = (rows : Rows) → IsTree rows → (jobs : List Job) → AllLegal rows jobs
-    → (opening : List ℤ) (past : List Event)
-    → IsRun jobs past → IsFinished jobs past
+    → (opening : List ℤ) (past : List Event) → IsRun jobs past → IsFinished jobs past
     → IsEachOnce (placement_order rows jobs past) (length jobs)
     × IsSerialBy (placement_order rows jobs past) jobs opening past
 

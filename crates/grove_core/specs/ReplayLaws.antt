@@ -11,8 +11,7 @@ use Rattle.grove_core.specs.Replays.{IsReplayFault}
 -- events have one first reason alone, and a finished run has none
 abbrev pub ReplayFaultIsOne : Type 0
 ReplayFaultIsOne = (rows : Rows) (jobs : List Job) (events : List Event) (one other : ReplayFault) → one ≢ Memory
-    → other ≢ Memory
-    → IsReplayFault rows jobs events one → IsReplayFault rows jobs events other → one ≡ other
+    → other ≢ Memory → IsReplayFault rows jobs events one → IsReplayFault rows jobs events other → one ≡ other
 
 abbrev pub FinishedIsFaultless : Type 0
 FinishedIsFaultless = (rows : Rows) (jobs : List Job) (events : List Event) → AllLegal rows jobs

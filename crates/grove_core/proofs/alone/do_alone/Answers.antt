@@ -1,14 +1,9 @@
-use Rattle.std.proofs.Common.{ℕ, sym, subst}
-use Rattle.grove_access.specs.Lists.{nodes_of, AreBelow}
-use Rattle.grove_core.specs.Runs.{list_of, plan_of}
+use Rattle.std.proofs.Common.{arith}
 use Rattle.grove_core.proofs.AloneDone.{legal_fits, done_from}
 use Rattle.grove_core.proofs.alone.do_alone.Goals as goal
 
 pub do_all-requires-clause-fit : goal.do_all-requires-clause-fit
-do_all-requires-clause-fit c = λ t lt.
-    subst (λ (n : ℕ). AreBelow n (nodes_of (list_of c.args.jobs.now t))) (sym c.requires.records)
-    (legal_fits c.args.tree.now (nodes_of (list_of c.args.jobs.now t)) (plan_of c.args.jobs.now t)
-    (c.requires.legal t lt))
+do_all-requires-clause-fit c = grind (arith, legal_fits)
 
 pub returns-clause-done : goal.returns-clause-done
 returns-clause-done c =

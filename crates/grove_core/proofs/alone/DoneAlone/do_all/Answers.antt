@@ -1,4 +1,4 @@
-use Rattle.std.proofs.Common.{length}
+use Rattle.std.proofs.Common.{length, arith}
 use Rattle.grove_core.specs.Runs.{list_of}
 use Rattle.grove_core.proofs.DoneInTurn.{does_none, does_below, does_length, room_list, fit_read, list_read}
 use Rattle.grove_core.proofs.alone.DoneAlone.do_all.Goals as goal
@@ -13,10 +13,7 @@ do_list-requires-clause-fits c =
     (does_length _ _ _ _ _ c.loop-txn.invariant) c.requires.fit
 
 pub do_list-requires-clause-room : goal.do_list-requires-clause-room
-do_list-requires-clause-room c =
-    room_list (list_of c.args.jobs.now) c.loop-txn.txn (length c.args.jobs.now) _ _ _ _ _ c.loop-txn-test.true
-    (list_read c.args.jobs.now c.loop-txn.txn c.index-jobs-txn.result c.loop-txn-test.true c.index-jobs-txn.is)
-    c.requires.room c.loop-txn.invariant
+do_list-requires-clause-room c = grind (arith, list_read, room_list)
 
 pub loop-txn-preserved : goal.loop-txn-preserved
 loop-txn-preserved c =

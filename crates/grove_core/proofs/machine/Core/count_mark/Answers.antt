@@ -8,14 +8,12 @@ use Rattle.grove_core.proofs.machine.Core.count_mark.Goals as goal
 
 pub index_mut-progress-requires : goal.index_mut-progress-requires
 index_mut-progress-requires c =
-    let lt : c.args.txn < length c.self.inside.progress.items = progress_there (seen c.self.view_is c.self.invariant) c.args.txn (Lock c.args.node) c.requires.next in
-    omega arith
+    omega (arith, progress_there (seen c.self.view_is c.self.invariant) c.args.txn (Lock c.args.node) c.requires.next)
 
 pub index_mut-requires : goal.index_mut-requires
 index_mut-requires c =
     let core = seen c.self.view_is c.self.invariant in
-    let lt : c.args.node < length c.self.inside.waits.items = wait_there core c.args.node (locked_within core c.args.txn c.args.node c.requires.next) in
-    omega arith
+    omega (arith, wait_there core c.args.node (locked_within core c.args.txn c.args.node c.requires.next))
 
 pub overflow_add-index_mut : goal.overflow_add-index_mut
 overflow_add-index_mut c =

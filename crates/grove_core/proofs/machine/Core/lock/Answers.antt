@@ -9,8 +9,7 @@ use Rattle.grove_core.proofs.machine.Core.lock.Goals as goal
 
 pub index_mut-progress-requires : goal.index_mut-progress-requires
 index_mut-progress-requires c =
-    let lt : c.args.txn < length c.self.inside.progress.items = progress_there (seen c.self.view_is c.self.invariant) c.args.txn (Lock c.args.node) c.requires.next in
-    omega arith
+    omega (arith, progress_there (seen c.self.view_is c.self.invariant) c.args.txn (Lock c.args.node) c.requires.next)
 
 pub lock_to_keep-kept-requires : goal.lock_to_keep-kept-requires
 lock_to_keep-kept-requires c = locked_within (seen c.self.view_is c.self.invariant) c.args.txn c.args.node c.requires.next
@@ -25,8 +24,7 @@ lock-requires c =
 pub index_mut-requires : goal.index_mut-requires
 index_mut-requires c =
     let core = seen c.self.view_is c.self.invariant in
-    let lt : c.args.node < length c.self.inside.owners.items = owner_there core c.args.node (locked_within core c.args.txn c.args.node c.requires.next) in
-    omega arith
+    omega (arith, owner_there core c.args.node (locked_within core c.args.txn c.args.node c.requires.next))
 
 pub push_reserved-requires : goal.push_reserved-requires
 push_reserved-requires c =

@@ -1,12 +1,10 @@
-use Rattle.std.proofs.Common.{◌<◌, ℕ, length, Option, sym, ◌∙◌, ap, arith}
+use Rattle.std.proofs.Common.{ℕ, Option, sym, ◌∙◌, ap, arith}
 use Rattle.grove_core.specs.CarriedTests.{is_owner}
 use Rattle.grove_core.proofs.CoreReads.{seen, owner_there, last_seen}
 use Rattle.grove_core.proofs.machine.Core.locked_last.Goals as goal
 
 pub index-requires : goal.index-requires
-index-requires c =
-    let lt : c.args.node < length c.self.inside.owners.items = owner_there (seen c.self.view_is c.self.invariant) c.args.node c.requires in
-    omega arith
+index-requires c = grind (arith, owner_there, seen)
 
 pub returns : goal.returns
 returns c = λ yes'.

@@ -1,4 +1,4 @@
-use Rattle.std.proofs.Common.{◌<◌, length, Some, None, sym, ◌∙◌, arith}
+use Rattle.std.proofs.Common.{Some, None, sym, ◌∙◌, arith}
 use Rattle.grove_core.proofs.CoreReads.{seen, owner_there, holder_seen}
 use Rattle.grove_core.proofs.CoreSteps.{locked_within}
 use Rattle.grove_core.proofs.machine.Core.other_holder.Goals as goal
@@ -6,8 +6,7 @@ use Rattle.grove_core.proofs.machine.Core.other_holder.Goals as goal
 pub index-requires : goal.index-requires
 index-requires c =
     let core = seen c.self.view_is c.self.invariant in
-    let lt : c.args.node < length c.self.inside.owners.items = owner_there core c.args.node (locked_within core c.args.txn c.args.node c.requires) in
-    omega arith
+    omega (arith, owner_there core c.args.node (locked_within core c.args.txn c.args.node c.requires))
 
 pub returns-in-Some : goal.returns-in-Some
 returns-in-Some c =

@@ -1,5 +1,5 @@
 use Rattle.std.proofs.lemmas.Bool.{both_ways}
-use Rattle.std.proofs.Common.{ℕ, List, sym, ◌∙◌, subst}
+use Rattle.std.proofs.Common.{ℕ, List, sym, ◌∙◌, subst, arith}
 use Rattle.grove_access.specs.declared.entry.Entry.{Entry}
 use Rattle.grove_core.specs.CarriedTests.{Follows}
 use Rattle.grove_core.specs.Kept.{past_of}
@@ -8,8 +8,7 @@ use Rattle.grove_core.proofs.CarriedEntries.{entry_next, steps_whole, batch_afte
 use Rattle.grove_core.proofs.machine.Core.take_entries.Goals as goal
 
 pub returns-then-not-continues-clause-fits : goal.returns-then-not-continues-clause-fits
-returns-then-not-continues-clause-fits c = λ of.
-    absurd (both_ways c.continues.result c.if-not-continues.true (c.continues.ensures.1 (follows_test c.args.self.now c.args.carry.now c.txn-txn.result c.entries.result.now c.txn-txn.ensures.txn c.entries.ensures of)))
+returns-then-not-continues-clause-fits c = grind (arith, both_ways, follows_test)
 
 pub access-requires : goal.access-requires
 access-requires c =
@@ -31,5 +30,4 @@ pub returns-clause-batch : goal.returns-clause-batch
 returns-clause-batch c = batch_after c.args.self.now c.loop-entry.self c.args.carry.now.txn c.loop-entry.entry-index c.loop-entry.invariant
 
 pub returns-clause-next : goal.returns-clause-next
-returns-clause-next c = λ _. next_after c.args.self.now c.loop-entry.self c.args.carry.now.txn _
-    (steps_whole c.args.self.now c.loop-entry.self c.args.carry.now c.loop-entry.entry-index c.entries-entry-items.result.now c.entries-entry-items.ensures c.loop-entry-test.false c.loop-entry.auto.entry-index-end c.loop-entry.invariant)
+returns-clause-next c = grind (arith, next_after, steps_whole)

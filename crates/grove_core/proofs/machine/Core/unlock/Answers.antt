@@ -8,8 +8,7 @@ use Rattle.grove_core.proofs.machine.Core.unlock.Goals as goal
 
 pub index_mut-progress-requires : goal.index_mut-progress-requires
 index_mut-progress-requires c =
-    let lt : c.args.txn < length c.self.inside.progress.items = progress_there (seen c.self.view_is c.self.invariant) c.args.txn (Unlock c.args.node) c.requires in
-    omega arith
+    omega (arith, progress_there (seen c.self.view_is c.self.invariant) c.args.txn (Unlock c.args.node) c.requires)
 
 pub unlock-requires : goal.unlock-requires
 unlock-requires c =
@@ -20,8 +19,7 @@ unlock-requires c =
 pub index_mut-requires : goal.index_mut-requires
 index_mut-requires c =
     let core = seen c.self.view_is c.self.invariant in
-    let lt : c.args.node < length c.self.inside.owners.items = owner_there core c.args.node (unlocked_within core c.args.txn c.args.node c.requires) in
-    omega arith
+    omega (arith, owner_there core c.args.node (unlocked_within core c.args.txn c.args.node c.requires))
 
 pub push_reserved-requires : goal.push_reserved-requires
 push_reserved-requires c =
