@@ -16,8 +16,7 @@ use borrow.Author.Differences.{ints, lt-true, true_is_lt, up, down}
 pub sum_one : (n k : ℕ) (f : ℕ → ℕ) → k < n → ((j : ℕ) → j < n → (j ≡ k → ⊥) → f j ≡ 0) → sum_below n f ≡ f k
 sum_one zero k f lt h = absurd (omega arith)
 sum_one (suc n) k f lt h = elim (cases_eq k n) [
-  | inl e ↦ let rest : sum_below n f ≡ 0 = sum_zero n f (λ j less. h j (omega arith) (λ same. omega arith)) in
-      rw e (omega arith)
+  | inl e ↦ grind (arith, sum_zero)
   | inr ne ↦ let rest : sum_below n f ≡ f k = sum_one n k f (omega arith) (λ j less other. h j (omega arith) other) in
       let here : f n ≡ 0 = h n (omega arith) (λ same. ne (sym same)) in omega arith
 ]
@@ -159,23 +158,8 @@ fewer : (n : ℕ) (s t : ℕ → Bool) → ((k : ℕ) → k < n → s k ≡ true
     → (((k : ℕ) → k < n → t k ≡ true → s k ≡ true) × (count_below n s ≤ count_below n t)) ⊎ (suc (count_below n s) ≤ count_below n t)
 fewer zero s t h = inl (λ k lt e. absurd (omega arith), omega arith)
 fewer (suc n) s t h = elim (fewer n s t (λ k lt. h k (omega arith))) [
-  | inr less ↦ elim (cases_Bool (s n)) [
-    | inl yes_s ↦ inr (omega (arith, count_hit n s yes_s, count_hit n t (h n (omega arith) yes_s)))
-    | inr no_s ↦ inr (omega (arith, count_miss n s no_s, count_mono n (suc n) t (omega arith)))
-  ]
-  | inl (same, le) ↦ elim (cases_Bool (s n)) [
-    | inl yes_s ↦ inl (
-      λ k lt e. elim (cases_eq k n) [ inl at_n ↦ rw at_n yes_s | inr other ↦ same k (omega arith) e ],
-      omega (arith, count_hit n s yes_s, count_hit n t (h n (omega arith) yes_s)),
-    )
-    | inr no_s ↦ elim (cases_Bool (t n)) [
-      | inl yes_t ↦ inr (omega (arith, count_hit n t yes_t, count_miss n s no_s))
-      | inr no_t ↦ inl (
-        λ k lt e. elim (cases_eq k n) [ inl at_n ↦ absurd (both_ways (t n) no_t (rw at_n at e)) | inr other ↦ same k (omega arith) e ],
-        omega (arith, count_miss n s no_s, count_miss n t no_t),
-      )
-    ]
-  ]
+  | inr less ↦ grind (arith, cases_Bool, count_hit, count_miss, count_mono)
+  | inl (same, le) ↦ grind (arith, both_ways, cases_Bool, cases_eq, count_hit, count_miss)
 ]
 
 -- of sets each in the one before it, two neighbours are the same, or each has fewer numbers
@@ -206,19 +190,11 @@ above_less places band v e = above_in places band v (omega (arith, above_out pla
 -- where no variable lies in a band, what is above it is closed
 band_closed : (arcs : List Arc) (amounts : List ℕ) (places : List ℤ) (n c : ℕ) → AreArcsOf arcs n → AreLawful arcs amounts places
     → ((v : ℕ) → v < n → is_above places c v ≡ true → is_above places (suc c) v ≡ true) → IsClosed arcs amounts (is_above places c)
-band_closed arcs amounts places n c arcs_of lawful same = record {
-  leaves = λ i lt is. let high = above_out places (suc c) (arc_at arcs i).from (same (arc_at arcs i).from (arcs_of i lt).from is) in
-      above_in places c (arc_at arcs i).to (omega (arith, ints, arcs_of i lt, (lawful i lt).met, high));
-  enters = λ i lt some is. let high = above_out places (suc c) (arc_at arcs i).to (same (arc_at arcs i).to (arcs_of i lt).to is) in
-      above_in places c (arc_at arcs i).from (omega (arith, ints, arcs_of i lt, (lawful i lt).tight some, high));
-}
+band_closed arcs amounts places n c arcs_of lawful same = grind (arith, above_in, above_out, ints)
 
 -- what is above a band has nothing to take
 band_met : (places : List ℤ) (unmet : List ℕ) (c v : ℕ) → AreUnmoved places unmet → is_above places c v ≡ true → slice_index unmet v ≡ 0
-band_met places unmet c v unmoved is = elim (eq-zero-or-pos (slice_index unmet v)) [
-  | inl e ↦ e
-  | inr some ↦ absurd (omega (arith, ints, unmoved v some, above_out places c v is))
-]
+band_met places unmet c v unmoved is = grind (arith, above_out, eq-zero-or-pos, ints)
 
 pub excess_low : {needs : List ℤ} {arcs : List Arc} (amounts : List ℕ) (places : List ℤ) (excess unmet : List ℕ)
     → IsFrame needs arcs → AreLawful arcs amounts places → AreBalanced arcs needs amounts excess unmet → AreUnmoved places unmet

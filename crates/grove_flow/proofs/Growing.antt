@@ -5,7 +5,7 @@ use Rattle.std.proofs.lemmas.Bool.{cases_eq}
 use Rattle.std.proofs.lemmas.Grind.{common_steps}
 use borrow.Author.Differences.{ints, up}
 use Rattle.grove_flow.specs.declared.network.Arc.{Arc}
-use Rattle.grove_flow.specs.Networks.{arc_at, place, IsLawful, AreLawful, no_arc}
+use Rattle.grove_flow.specs.Networks.{arc_at, place, IsLawful, AreLawful}
 use Rattle.grove_flow.specs.Reaches.{IsNew, IsStep, IsNoStep, AreNoSteps, IsLeastStep, IsRaised, IsAhead, IsBehind, IsGrown}
 use Rattle.grove_flow.specs.Trees.{IsKey, AreRaisedTo, IsLive, IsSearchTree, IsStateOf, IsTreeOf}
 use Rattle.std.proofs.lemmas.List.{ext_get_or, get_or_read, length-replicate}
@@ -41,12 +41,7 @@ pub key_step : {arc : Arc} {amount distance : ℕ} {places raised : List ℤ} {r
     → IsLawful arc amount places → IsLawful arc amount raised → IsKey arc amount places ranks entries key → IsStep arc amount raised ranks (pos key -ℤ pos distance)
 key_step {arc} key h standing lawful (inl k) =
     inl (record { leaves = k.leaves; arrives = k.arrives; slack_is = omega (arith, ints, h.still arc.to k.arrives, h.moved arc.from k.leaves) })
-key_step {arc} key h standing lawful (inr k) = inr (record {
-  leaves = k.leaves;
-  arrives = k.arrives;
-  some = k.some;
-  none = omega (arith, ints, lawful.tight k.some, standing.tight k.some, h.moved arc.to k.leaves, h.still arc.from k.arrives);
-})
+key_step {arc} key h standing lawful (inr k) = grind (arith, ints)
 
 pub step_key : {arc : Arc} {amount distance : ℕ} {places raised : List ℤ} {ranks entries : List ℕ} (slack : ℤ) → AreRaisedTo distance ranks entries places raised
     → IsLawful arc amount places → IsLawful arc amount raised → IsStep arc amount raised ranks slack → (key : ℕ) × IsKey arc amount places ranks entries key × (pos key ≡ slack +ℤ pos distance)
@@ -54,11 +49,7 @@ step_key {arc} {distance} slack h standing lawful (inl s) =
     let is : pos (up (slack +ℤ pos distance)) ≡ slack +ℤ pos distance =
     nonneg (slack +ℤ pos distance) (omega (arith, ints, h.moved arc.from s.leaves, h.still arc.to s.arrives)) in
     (up (slack +ℤ pos distance), inl (record { leaves = s.leaves; arrives = s.arrives; key_is = omega (arith, ints, h.moved arc.from s.leaves, h.still arc.to s.arrives) }), is)
-step_key {arc} {entries} slack h standing lawful (inr s) = (
-  slice_index entries arc.to,
-  inr (record { leaves = s.leaves; arrives = s.arrives; some = s.some; key_is = refl }),
-  omega (arith, ints, h.moved arc.to s.leaves, h.still arc.from s.arrives, standing.tight s.some, lawful.tight s.some),
-)
+step_key {arc} {entries} slack h standing lawful (inr s) = grind (arith, ints)
 
 -- where no arc leads on at a key, none leads on
 pub no_keys : (arcs : List Arc) (amounts : List ℕ) {distance : ℕ} {places raised : List ℤ} {ranks entries : List ℕ} → AreRaisedTo distance ranks entries places raised
@@ -74,10 +65,7 @@ no_keys arcs amounts {raised} {ranks} h standing lawful none i lt =
         | inl no_to ↦ absurd (stuck (place raised arc.to -ℤ (place raised arc.from +ℤ arc.least)) (inl (record { leaves = from; arrives = no_to; slack_is = omega (arith, ints) })))
         | inr to ↦ to
       ];
-      enters = λ some to. elim (eq-zero-or-pos (slice_index ranks arc.from)) [
-        | inl no_from ↦ absurd (stuck (pos 0) (inr (record { leaves = to; arrives = no_from; some = some; none = refl })))
-        | inr from ↦ from
-      ];
+      enters = grind (arith, eq-zero-or-pos);
     }
 
 -- the arc with the least key has the least slack
@@ -164,11 +152,7 @@ module _ {network : Network} {state : State} {tree : Tree} {source count last : 
   farthest = omega (arith, ints, state_of.near source, h.grown.state.near source, h.raised_to.moved source h.grown.reached.source_rank, h.first)
 
   pub search_tree : IsSearchTree network state tree
-  search_tree = record {
-    state_of = state_of;
-    tree_of = h.tree_of;
-    early = λ v rank. omega (arith, farthest, h.raised_to.entered v rank);
-  }
+  search_tree = grind (arith, farthest)
 
   -- some arc leads on, where the last variable lacks nothing
   pub never_empty : slice_index state.unmet.items last ≡ 0 → ((i key : ℕ) → IsLive network state tree i key → ⊥) → ⊥
@@ -178,8 +162,7 @@ module _ {network : Network} {state : State} {tree : Tree} {source count last : 
   -- what is read of an arc
   pub arc_read : {i key : ℕ} (amount : ℕ) (arc : Arc) → IsLive network state tree i key → arc ≡ slice_index_or network.arcs.items i arc
       → amount ≡ slice_index_or state.amounts.items i amount → (arc ≡ arc_at network.arcs.items i) × (amount ≡ slice_index state.amounts.items i)
-  arc_read {i} amount arc live arc_is amount_is =
-      (get_or_read network.arcs.items i arc live.within arc_is no_arc, get_or_read state.amounts.items i amount (omega arith) amount_is 0)
+  arc_read {i} amount arc live arc_is amount_is = grind (arith, get_or_read)
 
   -- one variable more
   pub growing_more : {i key v room amount : ℕ} {arc : Arc} (new : Tree) → slice_index state.unmet.items last ≡ 0
@@ -202,12 +185,7 @@ module _ {network : Network} {state : State} {tree : Tree} {source count last : 
       let other : source ≢ v = apart ranks source v h.grown.reached.source_rank fresh in
       let key_here : slice_index (slice_set tree.entries.items v key) v ≡ key = get_or-set_same tree.entries.items v key 0 (omega arith) in
       record {
-        tree_of = record {
-          ranks = rw ranks_is (length-set ranks v (count + 1) ∙ h.tree_of.ranks);
-          vias = rw vias_is (length-set tree.vias.items v i ∙ h.tree_of.vias);
-          rooms = rw rooms_is (length-set tree.rooms.items v room ∙ h.tree_of.rooms);
-          entries = rw entries_is (length-set tree.entries.items v key ∙ h.tree_of.entries);
-        };
+        tree_of = grind (arith, length-set);
         raised = raise_by by ranks h.raised;
         raised_to = rw (ranks_is, entries_is, key_here) (raised_more key v (count + 1) h.raised_to farther raise fresh lt (omega arith) (omega arith));
         grown = rw (ranks_is, vias_is, rooms_is) (grown h.grown met step raise arc_is lt (rw amount_is at entry));
@@ -227,12 +205,7 @@ growing_start {state} {tree} {source} {room} state_of sizes lt some read ranks_i
     let only : (v : ℕ) → 0 < slice_index (slice_set (zeros n) source 1) v → slice_index (slice_set tree.entries.items source 0) v ≡ 0 =
     λ v rank. let none : slice_index (zeros n) v ≡ 0 = no_ranks n v in grind (arith, common_steps) in
     record {
-      tree_of = record {
-        ranks = rw ranks_is (length-set (zeros n) source 1 ∙ length-replicate n 0 ∙ sizes.ranks);
-        vias = rw vias_is sizes.vias;
-        rooms = rw rooms_is (length-set tree.rooms.items source room ∙ sizes.rooms);
-        entries = rw entries_is (length-set tree.entries.items source 0 ∙ sizes.entries);
-      };
+      tree_of = grind (arith, length-replicate, length-set, zeros);
       raised = state.places.items;
       raised_to = rw (ranks_is, entries_is, first) (record {
         size = refl;

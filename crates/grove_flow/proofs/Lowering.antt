@@ -1,5 +1,6 @@
 -- Places that are lowered: what stays below them, and how far they fall.
-use Rattle.std.proofs.Common.{◌≡◌, ℕ, suc, ◌+◌, ◌-◌, ◌<◌, ◌≤◌, Bool, true, false, List, length, slice_index, slice_set, ℤ, pos, negsuc, ◌+ℤ◌, ◌-ℤ◌, ◌≤ℤ◌, refl, sym, ◌∙◌, ap, subst, inl, inr, arith}
+use Rattle.std.proofs.Common.{◌≡◌, ℕ, ◌+◌, ◌-◌, ◌<◌, ◌≤◌, Bool, true, false, List, length, slice_index, slice_set, ℤ}
+use Rattle.std.proofs.Common.{negsuc, ◌+ℤ◌, ◌-ℤ◌, ◌≤ℤ◌, refl, sym, ◌∙◌, subst, inl, inr, arith}
 use Rattle.std.proofs.lemmas.Bool.{cases_eq, cases_lt, cases_Bool, both_ways}
 use Rattle.std.proofs.lemmas.List.{get_or_past}
 use Rattle.std.proofs.lemmas.List.Sums.{sum_by-set}
@@ -11,7 +12,7 @@ use Rattle.grove_flow.specs.Networks.{arc_at, place, IsLawful, AreLawful, AreAtM
 use Rattle.grove_flow.specs.declared.settling.Way.{Way}
 use Rattle.grove_flow.specs.declared.settling.Way.TheVariants.{Forward, Backward}
 use Rattle.grove_flow.specs.Ways.{arc_on}
-use Rattle.grove_flow.specs.Floors.{AreHeld, AreHighest, HasFloor, HaveFloor, IsKept, AreKept, IsLoweredAt, height, heights}
+use Rattle.grove_flow.specs.Floors.{AreHeld, AreHighest, HasFloor, HaveFloor, IsKept, AreKept, IsLoweredAt, heights}
 
 -- a place that is set to a value above a low place stays above it
 set_below : (low old : List ℤ) (v : ℕ) (most : ℤ) → v < length old → AreAtMost low old → place low v ≤ℤ most
@@ -25,16 +26,12 @@ set_down old v most lt le u = grind (arith, common_steps, ints)
 
 -- a place that is lowered makes the heights less
 pub lowered_heights : {v : ℕ} {most : ℤ} {old new : List ℤ} → v < length old → negsuc 9223372036854775807 ≤ℤ most → IsLoweredAt v most old new → heights new < heights old
-lowered_heights {v} {most} {old} lt held h =
-    rw h.set (omega (arith, sum_by-set height old v most (pos 0) lt, le_out (negsuc 9223372036854775807) most held, lt_out most (place old v) h.below))
+lowered_heights {v} {most} {old} lt held h = grind (arith, le_out, lt_out, sum_by-set)
 
 -- what is lawful on an arc stays below where a place is lowered to what the arc allows
 lowered_kept : {arc : Arc} {amount v : ℕ} {most : ℤ} {old new : List ℤ} → v < length old → IsLoweredAt v most old new
     → ((low : List ℤ) → IsLawful arc amount low → AreAtMost low old → place low v ≤ℤ most) → IsKept arc amount old new
-lowered_kept {v} {most} {old} lt h most_is = record {
-  above = λ low lawful below. rw h.set (set_below low old v most lt below (most_is low lawful below));
-  down = rw h.set (set_down old v most lt (at_most_in most (place old v) (omega (arith, lt_out most (place old v) h.below))));
-}
+lowered_kept {v} {most} {old} lt h most_is = grind (arith, at_most_in, lt_out, set_below, set_down)
 
 pub from_kept : {arc : Arc} {amount : ℕ} {old new : List ℤ} → arc.from < length old → IsLoweredAt arc.from (place old arc.to -ℤ arc.least) old new → IsKept arc amount old new
 from_kept {arc} lt h = lowered_kept lt h (λ low lawful below. omega (arith, ints, lawful.met, below arc.to))
@@ -66,10 +63,7 @@ pub lowered_at : (old : List ℤ) (v : ℕ) (most : ℤ) → lt_z most (place ol
 lowered_at old v most e = record { below = below_in most (place old v) (omega (arith, lt-true most (place old v) e)); set = refl }
 
 pub kept_kept : {arcs : List Arc} {amounts : List ℕ} {old mid new : List ℤ} → AreKept arcs amounts old mid → AreKept arcs amounts mid new → AreKept arcs amounts old new
-kept_kept {old} {mid} {new} h k = record {
-  above = λ low lawful below. k.above low lawful (h.above low lawful below);
-  down = λ v. omega (arith, ints, k.down v, h.down v);
-}
+kept_kept {old} {mid} {new} h k = grind (arith, ints)
 
 pub kept_floor : {arcs : List Arc} {amounts : List ℕ} {old new : List ℤ} → AreKept arcs amounts old new → HaveFloor arcs amounts old → HaveFloor arcs amounts new
 kept_floor h (low, floor) = (low, record { lawful = floor.lawful; below = h.above low floor.lawful floor.below; held = floor.held })
@@ -88,10 +82,7 @@ pub swept_lowered : {way : Way} {k : ℕ} (i : ℕ) {arcs : List Arc} {amounts :
 swept_lowered i {old} {mid} {new} {lowered} lt h size kept less = record {
   size = size ∙ h.size;
   kept = kept_kept h.kept (record { above = λ low lawful below. kept.above low (lawful i lt) below; down = kept.down });
-  falls = λ e. elim (cases_Bool lowered) [
-    | inl yes_it ↦ omega (arith, h.falls yes_it)
-    | inr no_it ↦ omega (arith, ap heights (h.still no_it))
-  ];
+  falls = grind (arith, cases_Bool);
   still = λ e. absurd (both_ways true e refl);
   lawful = λ e j lt. absurd (both_ways true e refl);
 }
@@ -105,10 +96,7 @@ swept_still {way} {k} i {arcs} {amounts} {old} {mid} new {lowered} is h e lawful
       kept = h.kept;
       falls = h.falls;
       still = h.still;
-      lawful = λ no_it j lt. elim (cases_eq j k) [
-        | inl here ↦ subst (λ l. IsLawful (arc_at arcs l) (slice_index amounts l) mid) (is ∙ ap (λ l. arc_on way l (length arcs)) (sym here)) lawful
-        | inr other ↦ h.lawful no_it j (omega arith)
-      ];
+      lawful = grind (arith, cases_eq);
     })
 
 -- each arc has its turn, in either order
@@ -124,13 +112,7 @@ swept_lawful {way} {arcs} {amounts} {new} h e i lt =
 -- the places of a candidate are below the highest ones
 candidate_below : {n : ℕ} {arcs : List Arc} {amounts : List ℕ} {top : ℤ} {low highest : List ℤ}
     → IsCandidate n arcs amounts top low → AreHighest n top highest → AreAtMost low highest
-candidate_below {n} {low} {highest} h high v = elim (cases_lt v n) [
-  | inr past ↦ omega (arith, ints, get_or_past low v (pos 0) (omega (arith, h.size)), get_or_past highest v (pos 0) (omega (arith, high.size)))
-  | inl within ↦ elim (cases_lt (suc v) n) [
-    | inl other ↦ omega (arith, ints, high.others v other, h.capped v within)
-    | inr last ↦ let e : v ≡ n - 1 = omega arith in rw e (omega (arith, ints, h.base, high.base))
-  ]
-]
+candidate_below {n} {low} {highest} h high v = grind (arith, cases_lt, get_or_past, ints)
 
 -- what the lowering begins with
 pub highest_floor : {n : ℕ} {arcs : List Arc} {amounts : List ℕ} {top : ℤ} {low highest : List ℤ} → IsCandidate n arcs amounts top low → AreHighest n top highest → AreHeld low → HaveFloor arcs amounts highest
@@ -144,10 +126,7 @@ latest_is {n} {top} {low} {highest} {new} h high same lawful kept = record {
     size = same ∙ high.size;
     lawful = lawful;
     base = omega (arith, ints, kept.down (n - 1), kept.above low h.lawful (candidate_below h high) (n - 1));
-    capped = λ v lt. elim (cases_lt (suc v) n) [
-      | inl other ↦ omega (arith, ints, kept.down v, high.others v other)
-      | inr last ↦ let e : v ≡ n - 1 = omega arith in rw e (omega (arith, ints, kept.down (n - 1), high.base, h.base, h.capped (n - 1) (omega arith)))
-    ];
+    capped = grind (arith, cases_lt, ints);
   };
   greatest = λ other candidate. kept.above other candidate.lawful (candidate_below candidate high);
 }

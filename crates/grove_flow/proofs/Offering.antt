@@ -76,8 +76,7 @@ pub record IsOffered (network : Network) (state : State) (tree : Tree) (fan : Fa
 
 -- an arc is in the queue at one key alone
 pub key_once : {network : Network} {state : State} {tree : Tree} {i k l : ℕ} → IsLive network state tree i k → IsLive network state tree i l → k ≡ l
-key_once {network} {state} {tree} {i} {k} {l} h j =
-    key_same (arc_at network.arcs.items i) (slice_index state.amounts.items i) state.places.items tree.ranks.items tree.entries.items k l h.is j.is
+key_once {network} {state} {tree} {i} {k} {l} h j = grind (arith, key_same)
 
 pub not_live : {network : Network} {state : State} {tree : Tree} {i key : ℕ} → IsNoStep (arc_at network.arcs.items i) (slice_index state.amounts.items i) tree.ranks.items
     → IsLive network state tree i key → ⊥
@@ -95,8 +94,7 @@ pub dead : {network : Network} {state : State} {tree : Tree} (i key : ℕ) (answ
     → MatchOption answer (IsNoStep (arc_at network.arcs.items i) (slice_index state.amounts.items i) tree.ranks.items) (λ k. IsLive network state tree i k)
     → false ≡ option_eq eqb answer (Some key) → {j k : ℕ} → (k ≡ key) × (j ≡ i) → IsLive network state tree j k → ⊥
 dead {network} {state} {tree} i key answer known differs {k} (k_is, j_is) h =
-    let is : answer ≡ Some key = live_answer answer known (rw (k_is, j_is) at h) in
-    both_ways (option_eq eqb answer (Some key)) (sym differs) (rw is (eq-eqb key key refl))
+    grind (arith, both_ways, eq-eqb, live_answer)
 
 -- one arc of the chain more
 pub offered_more : {network : Network} {state : State} {tree : Tree} {fan : Fan} {v : ℕ} {old mid : Queue} (new : Queue) {at : Option ℕ} (i : ℕ) (next : Option ℕ)
@@ -116,10 +114,7 @@ offered_more {network} {state} {tree} {fan} {v} new i next is_fan is h read kept
       added = λ k key le live there. elim (cases_order k i) [
         | inl e ↦ rw e (here key (rw e at live))
         | inr (inl less) ↦ absurd (omega arith)
-        | inr (inr more) ↦ elim (cases_lt k h.bound) [
-          | inl below ↦ absurd (none k more below there)
-          | inr above ↦ kept key k (h.added k key above live there)
-        ]
+        | inr (inr more) ↦ grind (arith, cases_lt)
       ];
       within = within;
     }

@@ -15,15 +15,11 @@ use Rattle.std.proofs.lemmas.Grind.{common_steps}
 -- what is reached but the last lacks nothing, and the last doesn't either
 pub all_met : (unmet ranks : List ℕ) (last : ℕ) → ((v : ℕ) → 0 < slice_index ranks v → v ≢ last → slice_index unmet v ≡ 0) → slice_index unmet last ≡ 0
     → (v : ℕ) → 0 < slice_index ranks v → slice_index unmet v ≡ 0
-all_met unmet ranks last met none v reached = elim (cases_eq v last) [
-  | inl e ↦ rw e none
-  | inr ne ↦ met v reached ne
-]
+all_met unmet ranks last met none v reached = grind (arith, cases_eq)
 
 -- The search can't get stuck: where no arc leads on, what is reached is closed, and the source has nothing to give.
 pub never_stuck : {needs : List ℤ} {arcs : List Arc} {amounts : List ℕ} {places : List ℤ} {excess unmet ranks vias rooms : List ℕ} {source count last : ℕ}
-    → IsGrown needs arcs amounts places excess unmet ranks vias rooms source count last
-    → slice_index unmet last ≡ 0
+    → IsGrown needs arcs amounts places excess unmet ranks vias rooms source count last → slice_index unmet last ≡ 0
     → AreNoSteps (length arcs) arcs amounts ranks → ⊥
 never_stuck {arcs} {amounts} {excess} {unmet} {ranks} {rooms} {source} {last} grown none stuck =
     let is_reached : ℕ → Bool = λ v. ltb 0 (slice_index ranks v) in
@@ -39,10 +35,7 @@ never_stuck {arcs} {amounts} {excess} {unmet} {ranks} {rooms} {source} {last} gr
 -- no slack is negative, so neither is the least
 pub least_positive : {arcs : List Arc} {amounts : List ℕ} {places : List ℤ} {ranks : List ℕ} {chosen : ℕ} {by : ℤ}
     → AreLawful arcs amounts places → IsLeastStep (length arcs) arcs amounts places ranks chosen by → pos 0 ≤ℤ by
-least_positive {chosen = chosen} lawful least = elim least.step [
-  | inl h ↦ omega (arith, ints, h.slack_is, (lawful chosen least.within).met)
-  | inr h ↦ omega (arith, ints, h.none)
-]
+least_positive {chosen = chosen} lawful least = grind (arith, ints)
 
 -- the slack of an arc fits, and the numbers that it is worked out from
 pub slack_fits : (arc : Arc) (places : List ℤ) → IsModest arc.least → AreNear places → IsMet arc places
@@ -134,34 +127,18 @@ entered : {n : ℕ} {arcs : List Arc} {amounts : List ℕ} {places : List ℤ} {
     → IsModest arc.least → IsTight arc places → v < n → IsAhead arc ranks rooms v room ⊎ IsBehind arc amount ranks rooms v room
     → IsEntered arc amount places ranks rooms source count v room
 entered {places} {ranks} {source} {count} {arc} {v} h low (least_low, least_high) tight lt (inl e) =
-    let fresh : slice_index ranks v ≡ 0 = rw e.here at e.arrives in
-    let other : arc.from ≢ v = apart ranks arc.from v e.leaves fresh in
-    let rank_le : slice_index ranks arc.from ≤ count = h.ranks_le arc.from in
-    record {
-      fresh = fresh;
-      some = omega (arith, h.ways.open_rooms arc.from e.leaves);
-      low = omega (arith, ints, ap (place places) e.here, low arc.from e.leaves);
-      end = inl (record { here = e.here; reached = grind (arith, common_steps); before = grind (arith, common_steps); room = grind (arith, common_steps) });
-    }
+    grind (arith, apart, common_steps, ints)
 entered {places} {ranks} {rooms} {source} {count} {arc} {amount} {v} {room} h low (least_low, least_high) tight lt (inr e) =
     let fresh : slice_index ranks v ≡ 0 = rw e.here at e.arrives in
     let other : arc.to ≢ v = apart ranks arc.to v e.leaves fresh in
     let rank_le : slice_index ranks arc.to ≤ count = h.ranks_le arc.to in
-    let room_le : (room ≤ slice_index rooms arc.to) × (room ≤ amount) = omega arith in
-    record {
-      fresh = fresh;
-      some = omega (arith, h.ways.open_rooms arc.to e.leaves);
-      low = omega (arith, ints, ap (place places) e.here, low arc.to e.leaves);
-      end = inr (record { here = e.here; reached = grind (arith, common_steps); before = grind (arith, common_steps); room = grind (arith, common_steps); sent = grind (arith, common_steps) });
-    }
+    grind (arith, common_steps, ints)
 
 -- how another variable was reached stays as it is
 end_stays : {arc : Arc} {amount : ℕ} {ranks rooms : List ℕ} (v rank room : ℕ) {u : ℕ} → slice_index ranks v ≡ 0 → u ≢ v → IsLinkedOn arc ranks rooms u ⊎ IsLinkedBack arc amount ranks rooms u
     → IsLinkedOn arc (slice_set ranks v rank) (slice_set rooms v room) u ⊎ IsLinkedBack arc amount (slice_set ranks v rank) (slice_set rooms v room) u
-end_stays {arc} {ranks} v rank room fresh other (inl h) = let from : arc.from ≢ v = apart ranks arc.from v h.reached fresh in
-    inl (record { here = h.here; reached = grind (arith, common_steps); before = grind (arith, common_steps); room = grind (arith, common_steps) })
-end_stays {arc} {ranks} v rank room fresh other (inr h) = let to : arc.to ≢ v = apart ranks arc.to v h.reached fresh in
-    inr (record { here = h.here; reached = grind (arith, common_steps); before = grind (arith, common_steps); room = grind (arith, common_steps); sent = grind (arith, common_steps) })
+end_stays {arc} {ranks} v rank room fresh other (inl h) = grind (arith, apart, common_steps)
+end_stays {arc} {ranks} v rank room fresh other (inr h) = grind (arith, apart, common_steps)
 
 -- one variable more
 reach_more : {n : ℕ} {arcs : List Arc} {amounts : List ℕ} {places : List ℤ} {excess ranks vias rooms : List ℕ} {source count : ℕ} (i : ℕ) {v room : ℕ}
@@ -183,12 +160,10 @@ reach_more {arcs} {ranks} {vias} {rooms} {source} {count} i {v} {room} h i_lt lt
       ranks_le = λ u. let le : slice_index ranks u ≤ count = h.ranks_le u in grind (arith, common_steps);
       ways = record {
         open_rooms = λ u some. let before : 0 < slice_index ranks u → 0 < slice_index rooms u = h.ways.open_rooms u in grind (arith, common_steps);
-        vias_within = λ u some other. let before : 0 < slice_index ranks u → slice_index vias u < length arcs = λ reached. h.ways.vias_within u reached other in
-            grind (arith, common_steps);
+        vias_within = grind (arith, common_steps);
         ends = λ u some other. elim (cases_eq u v) [
           | inl e ↦ rw (e, via_here) entry.end
-          | inr ne ↦ rw (get_or-set_other vias v u i 0 ne)
-              (end_stays v (count + 1) room entry.fresh ne (h.ways.ends u (omega (arith, get_or-set_other ranks v u (count + 1) 0 ne)) other))
+          | inr ne ↦ grind (arith, end_stays, get_or-set_other)
         ];
       };
     }
@@ -198,10 +173,7 @@ abbrev pub zeros : ℕ → List ℕ
 zeros n = replicate n 0
 
 pub no_ranks : (n v : ℕ) → slice_index (zeros n) v ≡ 0
-no_ranks n v = elim (cases_lt v n) [
-  | inl lt ↦ get_or-replicate n v 0 0 lt
-  | inr le ↦ get_or_past (zeros n) v 0 (omega (arith, length-replicate {A = ℕ} n 0))
-]
+no_ranks n v = grind (arith, cases_lt, get_or-replicate, get_or_past, length-replicate)
 
 all_unranked : (n : ℕ) → sum_by unranked (zeros n) ≡ n
 all_unranked zero = refl

@@ -27,14 +27,10 @@ sent_set test (arc ∷ arcs) (amount ∷ amounts) (suc i) x lt size = omega (ari
 -- more on an arc moves from its begin to its end, and less the other way
 module _ (arcs : List Arc) (amounts : List ℕ) (i x by : ℕ) (lt : i < length arcs) (size : length amounts ≡ length arcs) where
   moved_on : x ≡ slice_index amounts i + by → IsMoved arcs amounts (slice_set amounts i x) (arc_at arcs i).from (arc_at arcs i).to by
-  moved_on is u =
-      let more : (end : ℕ) → cond (end == u) x 0 ≡ cond (end == u) (slice_index amounts i) 0 + cond (end == u) by 0 = λ end. cond_more (end == u) _ _ _ is in
-      omega (arith, sent_set (λ arc. arc.to == u) arcs amounts i x lt size, sent_set (λ arc. arc.from == u) arcs amounts i x lt size, more (arc_at arcs i).to, more (arc_at arcs i).from)
+  moved_on is u = grind (arith, cond_more, sent_set)
 
   moved_back : slice_index amounts i ≡ x + by → IsMoved arcs amounts (slice_set amounts i x) (arc_at arcs i).to (arc_at arcs i).from by
-  moved_back is u =
-      let less : (end : ℕ) → cond (end == u) (slice_index amounts i) 0 ≡ cond (end == u) x 0 + cond (end == u) by 0 = λ end. cond_more (end == u) _ _ _ is in
-      omega (arith, sent_set (λ arc. arc.to == u) arcs amounts i x lt size, sent_set (λ arc. arc.from == u) arcs amounts i x lt size, less (arc_at arcs i).to, less (arc_at arcs i).from)
+  moved_back is u = grind (arith, cond_more, sent_set)
 
 -- the walk from a variable back to the source has come to v: what is sent leads from v
 pub record IsMoving (arcs : List Arc) (ranks vias rooms old new : List ℕ) (source target by v : ℕ) : Type 0 where
@@ -68,15 +64,8 @@ module _ {arcs : List Arc} {ranks vias rooms old new : List ℕ} {source target 
     bounded = λ i. let le : slice_index new i ≤ slice_index old i + by = h.bounded i in grind (arith, common_steps);
     untouched = λ u rank le apart. get_or-set_other new (slice_index vias v) (slice_index vias u) x 0 (λ e. other_via (omega arith)
         (subst (λ j. IsLinkedOn (arc_at arcs j) ranks rooms u ⊎ IsLinkedBack (arc_at arcs j) (slice_index old j) ranks rooms u) e (ways.ends u rank apart))
-        (ways.ends v h.rank other))
-        ∙ h.untouched u rank (omega arith) apart;
-    along = λ i. elim (cases_eq i (slice_index vias v)) [
-      | inl e ↦ inr (v, h.rank, other, sym e)
-      | inr ne ↦ elim (h.along i) [
-        | inl same ↦ inl (get_or-set_other new (slice_index vias v) i x 0 ne ∙ same)
-        | inr there ↦ inr there
-      ]
-    ];
+        (ways.ends v h.rank other)) ∙ h.untouched u rank (omega arith) apart;
+    along = grind (arith, cases_eq, get_or-set_other);
   }
 
   -- a step on, where more is sent along the arc that leads to v, or back, where less is sent along the arc that leads from v
@@ -114,15 +103,11 @@ module _ {arcs : List Arc} {ranks vias rooms old new : List ℕ} {source target 
 
 -- an entry that is set
 pub set_at : (xs : List ℕ) (u x v : ℕ) → u < length xs → slice_index (slice_set xs u x) v + at u (slice_index xs u) v ≡ slice_index xs v + at u x v
-set_at xs u x v lt = elim (cases_eq v u) [
-  | inl e ↦ rw (e, eq-eqb u u refl) (omega (arith, get_or-set_same xs u x 0 lt))
-  | inr ne ↦ rw (ne_eqb u v (λ e. ne (sym e))) (omega (arith, get_or-set_other xs u v x 0 ne))
-]
+set_at xs u x v lt = grind (arith, cases_eq, eq-eqb, get_or-set_other, get_or-set_same)
 
 -- an entry that is made less
 set_less : (xs : List ℕ) (v by u : ℕ) → v < length xs → by ≤ slice_index xs v → slice_index (slice_set xs v (slice_index xs v - by)) u + at v by u ≡ slice_index xs u
-set_less xs v by u lt le =
-    omega (arith, set_at xs v (slice_index xs v - by) u lt, cond_more (v == u) (slice_index xs v) (slice_index xs v - by) by (omega arith))
+set_less xs v by u lt le = grind (arith, cond_more, set_at)
 
 sum_less : (n : ℕ) (xs : List ℕ) (v by : ℕ) → v < n → v < length xs → by ≤ slice_index xs v
     → sum_below n (slice_index (slice_set xs v (slice_index xs v - by))) + by ≡ sum_below n (slice_index xs)
@@ -147,10 +132,7 @@ pub sent_state : {needs : List ℤ} {arcs : List Arc} {old : List ℕ} (new : Li
 sent_state {needs} {arcs} {old} new {excess} {unmet} {source} {target} by h room_le le size moved bounded along =
     record {
       frame = h.state.frame;
-      lawful = λ i lt. elim (along i) [
-        | inl same ↦ rw same (h.state.lawful i lt)
-        | inr there ↦ record { met = (h.state.lawful i lt).met; tight = λ some. rw there.3 at (h.tight there.0 there.1 there.2) }
-      ];
+      lawful = grind (arith);
       balanced = λ v lt. omega (arith, h.state.balanced v lt, moved v, set_less excess source by v (omega arith) (omega arith), set_less unmet target by v (omega arith) le);
       unmoved = λ v some. h.state.unmoved v (omega (arith, set_less unmet target by v (omega arith) le));
       near = h.state.near;
@@ -182,10 +164,7 @@ sent_take test (arc ∷ arcs) (amount ∷ amounts) (suc i) lt size = let e = sen
 total_more : (end : Arc → ℕ) (arcs : List Arc) (amounts sums : List ℕ) (i v : ℕ) → i < length arcs → length amounts ≡ length arcs → end (arc_at arcs i) < length sums
     → slice_index sums v ≡ sent (λ arc. end arc == v) arcs (take i amounts)
     → slice_index (slice_set sums (end (arc_at arcs i)) (slice_index sums (end (arc_at arcs i)) + slice_index amounts i)) v ≡ sent (λ arc. end arc == v) arcs (take (i + 1) amounts)
-total_more end arcs amounts sums i v lt size end_lt h =
-    let u : ℕ = end (arc_at arcs i) in
-    let more = cond_more (u == v) (slice_index sums u + slice_index amounts i) (slice_index sums u) (slice_index amounts i) refl in
-    rw (add-one i) (omega (arith, sent_take (λ arc. end arc == v) arcs amounts i lt size, set_at sums u (slice_index sums u + slice_index amounts i) v end_lt, more))
+total_more end arcs amounts sums i v lt size end_lt h = grind (arith, add-one, cond_more, sent_take, set_at)
 
 small_more : (sums : List ℕ) (u amount n v : ℕ) → u < length sums → ((w : ℕ) → slice_index sums w ≤ n) → slice_index (slice_set sums u (slice_index sums u + amount)) v ≤ n + amount
 small_more sums u amount n v lt h = grind (arith, common_steps)

@@ -1,5 +1,6 @@
 -- The state that the search begins with, and the solution that it ends with.
-use Rattle.std.proofs.Common.{◌≡◌, ℕ, zero, suc, ◌+◌, ◌-◌, ◌*◌, ◌<◌, ◌≤◌, ◌==◌, Bool, List, [], ◌∷◌, length, slice_index, slice_set, ℤ, pos, negsuc, ◌+ℤ◌, ◌-ℤ◌, ◌≤ℤ◌, refl, sym, ◌∙◌, ap, inl, inr, arith}
+use Rattle.std.proofs.Common.{◌≡◌, ℕ, zero, suc, ◌+◌, ◌-◌, ◌*◌, ◌<◌, ◌≤◌, Bool, List, [], ◌∷◌, length}
+use Rattle.std.proofs.Common.{slice_index, slice_set, ℤ, pos, negsuc, ◌+ℤ◌, ◌-ℤ◌, ◌≤ℤ◌, refl, sym, ◌∙◌, ap, arith}
 use Rattle.std.proofs.lemmas.Bool.{cases_lt}
 use Rattle.std.proofs.lemmas.List.{get_or_past, length-replicate}
 use Rattle.std.proofs.lemmas.Grind.{common_steps}
@@ -61,10 +62,7 @@ sent_none test (arc ∷ arcs) (suc n) = omega (arith, cond_none (test arc), sent
 
 -- a place of the start is modest, and so is what stands past them
 start_modest : {needs : List ℤ} {arcs : List Arc} {places : List ℤ} → IsStart needs arcs places → (v : ℕ) → (negsuc 1048575 ≤ℤ place places v) × (place places v ≤ℤ pos 1048576)
-start_modest {needs} {places} start v = elim (cases_lt v (length needs)) [
-  | inl lt ↦ start.modest v lt
-  | inr past ↦ omega (arith, ints, get_or_past places v (pos 0) (omega (arith, start.size)))
-]
+start_modest {needs} {places} start v = grind (arith, cases_lt, get_or_past, ints)
 
 pub start_state : {needs : List ℤ} {arcs : List Arc} {places : List ℤ} (excess unmet : List ℕ) → IsNetwork needs arcs → AreNamed arcs → IsStart needs arcs places
     → length excess ≡ length needs → length unmet ≡ length needs
@@ -73,8 +71,7 @@ pub start_state : {needs : List ℤ} {arcs : List Arc} {places : List ℤ} (exce
 start_state {needs} {arcs} {places} excess unmet network named start excess_size unmet_size excess_is unmet_is = record {
   frame = network_frame network named;
   lawful = λ i lt. record { met = start.met i lt; tight = λ some. absurd (omega (arith, no_ranks (length arcs) i)) };
-  balanced = λ v lt. let into = sent_none (λ arc. arc.to == v) arcs (length arcs) in
-      omega (arith, unmet_is v, excess_is v, into, sent_none (λ arc. arc.from == v) arcs (length arcs));
+  balanced = grind (arith, sent_none);
   unmoved = λ v some. (start_modest start v).1;
   near = λ v. omega (arith, ints, start_modest start v);
   amounts_size = length-replicate (length arcs) 0;
@@ -91,8 +88,7 @@ solution_is {needs} {arcs} {amounts} {old} {new} {excess} {unmet} state given re
   amounts_size = state.amounts_size;
   places_size = rebased.size ∙ state.places_size;
   balanced = λ v lt. omega (arith, ints, none_unmet amounts excess unmet state.frame state.balanced given v lt, given v lt, state.balanced v lt);
-  lawful = λ i lt. let arc = state.frame.arcs_of i lt in let was = state.lawful i lt in
-      omega (arith, ints, rebased.moved (arc_at arcs i).from (omega arith), rebased.moved (arc_at arcs i).to (omega arith));
+  lawful = grind (arith, ints);
   base = rw (← state.places_size) (omega (arith, ints, rebased.moved (length old - 1) (omega arith)));
   bounded = λ i. omega (arith, state.sound i);
 }

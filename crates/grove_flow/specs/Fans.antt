@@ -15,8 +15,7 @@ end_of To arc = arc.to
 -- the last of the arcs before the bound that end at v, if there is one
 abbrev pub IsLastArcAt : End → List Arc → ℕ → ℕ → Option ℕ → Type 0
 IsLastArcAt end arcs bound v last =
-    MatchOption last
-    ((i : ℕ) → i < bound → end_of end (arc_at arcs i) ≢ v)
+    MatchOption last ((i : ℕ) → i < bound → end_of end (arc_at arcs i) ≢ v)
     (λ k. (k < bound) × (end_of end (arc_at arcs k) ≡ v)
     × ((i : ℕ) → k < i → i < bound → end_of end (arc_at arcs i) ≢ v))
 

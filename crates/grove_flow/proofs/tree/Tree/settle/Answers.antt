@@ -1,4 +1,4 @@
-use Rattle.std.proofs.Common.{◌≡◌, ◌-◌, ◌<◌, slice_index, pos, ◌+ℤ◌, to_z, of_z, w64, ◌∙◌, subst, arith}
+use Rattle.std.proofs.Common.{◌≡◌, ◌-◌, ◌<◌, slice_index, pos, ◌+ℤ◌, to_z, of_z, w64, subst, arith}
 use Rattle.std.proofs.lemmas.List.{set-get_or}
 use borrow.Author.Differences.{ints}
 use Rattle.grove_flow.specs.Networks.{place}
@@ -21,6 +21,5 @@ loop-v-preserved c =
           let raised_is : to_z w64 (of_z w64 (place c.loop-v.places c.loop-v.v +ℤ pos (c.args.distance - w.index-then-index-gt0.result.now))) ≡ place c.loop-v.places c.loop-v.v +ℤ pos (c.args.distance - w.index-then-index-gt0.result.now) = omega (arith, ints) in
           rw (w.places-is, place_is, by, raised_is) (settled_raised
           (place c.loop-v.places c.loop-v.v +ℤ pos (c.args.distance - w.index-then-index-gt0.result.now)) (omega arith) c.loop-v.invariant rank (omega (arith, ints)))
-      | else-index-gt0 w ↦
-          rw (w.places-is ∙ set-get_or c.loop-v.places c.loop-v.v (pos 0)) (settled_still c.loop-v.invariant (omega arith))
+      | else-index-gt0 w ↦ grind (arith, set-get_or, settled_still)
     ]
