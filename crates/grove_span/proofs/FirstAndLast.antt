@@ -1,5 +1,6 @@
 -- Noting the first and the last access of each node.
-use Rattle.std.proofs.Common.{◌≡◌, ℕ, suc, ◌-◌, Bool, true, false, cond, List, slice_get, Option, Some, None, refl, sym, ◌∙◌, ap, subst, inl, inr, unwrap_or, arith}
+use Rattle.std.proofs.Common.{◌≡◌, ℕ, suc, ◌-◌, Bool, true, false, cond, List, slice_get, Option, Some, None, refl, sym}
+use Rattle.std.proofs.Common.{ap, subst, unwrap_or, arith}
 use Rattle.std.proofs.lemmas.Bool.{cases_Bool, eqb-true, eq-eqb}
 use Rattle.grove_base.specs.Numbers.{any_below, least_below}
 use Rattle.grove_tree.specs.Trees.{is_at}
@@ -34,10 +35,7 @@ last_miss nodes n node h = rw h refl
 
 -- an access of one node is none of another
 names_not : (nodes : List ℕ) (n target node : ℕ) → slice_get nodes n ≡ Some target → (node ≡ target → ⊥) → names_at nodes node n ≡ false
-names_not nodes n target node at other = elim (cases_Bool (names_at nodes node n)) [
-  | inl h ↦ absurd (other (sym (eqb-true target node (subst (λ (o : Option ℕ). is_at node o ≡ true) at h))))
-  | inr h ↦ h
-]
+names_not nodes n target node at other = grind (arith, cases_Bool, eqb-true)
 
 names_is : (nodes : List ℕ) (n node : ℕ) → slice_get nodes n ≡ Some node → names_at nodes node n ≡ true
 names_is nodes n node at = subst (λ (o : Option ℕ). is_at node o ≡ true) (sym at) (eq-eqb node node refl)
@@ -45,23 +43,12 @@ names_is nodes n node at = subst (λ (o : Option ℕ). is_at node o ≡ true) (s
 -- one more access of the node
 pub tells_hit : (nodes : List ℕ) (n node : ℕ) (old new : Visits) → slice_get nodes n ≡ Some node → new.first ≡ Some (unwrap_or old.first n) → new.last ≡ Some n
     → TellsOf nodes n node old → TellsOf nodes (suc n) node new
-tells_hit nodes n node old new at first last told = record {
-  first = first ∙ ap (λ (o : Option ℕ). Some (unwrap_or o n)) told.first ∙ sym (first_hit nodes n node (names_is nodes n node at));
-  last = last ∙ sym (last_hit nodes n node (names_is nodes n node at));
-}
+tells_hit nodes n node old new at first last told = grind (arith, first_hit, last_hit, names_is)
 
 -- one more access of another
 pub tells_miss : (nodes : List ℕ) (n target node : ℕ) (visits : Visits) → slice_get nodes n ≡ Some target → (node ≡ target → ⊥) → TellsOf nodes n node visits → TellsOf nodes (suc n) node visits
-tells_miss nodes n target node visits at other told = record {
-  first = told.first ∙ sym (first_miss nodes n node (names_not nodes n target node at other));
-  last = told.last ∙ sym (last_miss nodes n node (names_not nodes n target node at other));
-}
+tells_miss nodes n target node visits at other told = grind (arith, first_miss, last_miss, names_not)
 
 -- a node that no access names has none
 pub tells_none : (nodes : List ℕ) (n node : ℕ) (visits : Visits) → visits.first ≡ None → visits.last ≡ None → IsUnnamed nodes node → TellsOf nodes n node visits
-tells_none nodes n node visits first last unnamed =
-    let none : any_below n (names_at nodes node) ≡ false = any_none n (names_at nodes node) (λ k lt. elim (cases_Bool (names_at nodes node k)) [
-      | inl h ↦ absurd (unnamed k (is_at_true node (slice_get nodes k) h))
-      | inr h ↦ h
-    ]) in
-    record { first = first ∙ rw none refl; last = last ∙ rw none refl }
+tells_none nodes n node visits first last unnamed = grind (arith, any_none, cases_Bool, is_at_true)

@@ -1,5 +1,7 @@
 -- The rows of the forced nodes, listed in order.
-use Rattle.std.proofs.Common.{◌≡◌, ◌≢◌, ℕ, zero, suc, ◌<◌, ◌≤◌, Bool, true, false, cond, List, [], ◌∷◌, ◌++◌, length, slice_get, Option, Some, None, refl, sym, ◌∙◌, ap, subst, inl, inr, append-nil, option_map, arith, get_or}
+use Rattle.std.proofs.Common.{◌≡◌, ◌≢◌, ℕ, zero, suc, ◌<◌, ◌≤◌, Bool, true, false, cond, List, [], ◌∷◌, ◌++◌, length}
+use Rattle.std.proofs.Common.{slice_get, Option, Some, None, refl, sym, ◌∙◌, ap, inl, inr, append-nil, option_map}
+use Rattle.std.proofs.Common.{arith, get_or}
 use Rattle.std.specs.Option.{option_and_then}
 use Rattle.std.proofs.lemmas.List.{map-append}
 use Rattle.std.proofs.lemmas.Option.{none-some, same_Some, slice_get-get_or}
@@ -37,17 +39,12 @@ find_later test v low (suc high) lt le = elim (cases_eq low (suc high)) [
 parent_later : (rows : Rows) (nodes : List ℕ) (n : ℕ) (o : Option ℕ) → IsTree rows → n < length rows → parent_of rows n ≡ o
     → option_and_then (λ p. find_place p (passing_below n (is_forced rows nodes))) o ≡ option_and_then (λ p. find_place p (forced_nodes rows nodes)) o
 parent_later rows nodes n None tree lt is = refl
-parent_later rows nodes n (Some p) tree lt is =
-    sym (find_later (is_forced rows nodes) p n (length rows) (parent_lt rows tree n p is) (omega arith))
+parent_later rows nodes n (Some p) tree lt is = grind (arith, find_later, parent_lt)
 
 -- a property of all rows, with one more
 each_more : (P : SpanRow → Type 0) (items : List SpanRow) (last : SpanRow) → ((i : ℕ) (row : SpanRow) → slice_get items i ≡ Some row → P row) → P last
     → (i : ℕ) (row : SpanRow) → slice_get (items ++ last ∷ []) i ≡ Some row → P row
-each_more P items last before here i row h = elim (get_append_cases items (last ∷ []) i row h) [
-  | inl old ↦ before i row old
-  | inr (zero, e, is) ↦ subst P (same_Some last row is) here
-  | inr (suc k, e, is) ↦ absurd (none-some row is)
-]
+each_more P items last before here i row h = grind (arith, get_append_cases, none-some, same_Some)
 
 -- one more node that is forced
 pub list_hit : (rows : Rows) (nodes lengths : List ℕ) (n : ℕ) (numbers : List ℕ) (items : List SpanRow) (row : SpanRow) → IsTree rows → n < length rows
@@ -70,10 +67,7 @@ list_hit rows nodes lengths n numbers items row tree lt hit is heavy parent visi
 -- one more node that is not forced
 pub list_miss : (rows : Rows) (nodes lengths : List ℕ) (n : ℕ) (numbers : List ℕ) (items : List SpanRow) → is_forced rows nodes n ≡ false
     → IsListedTo rows nodes lengths n numbers items → IsListedTo rows nodes lengths (suc n) numbers items
-list_miss rows nodes lengths n numbers items miss so_far =
-    let same : passing_below (suc n) (is_forced rows nodes) ≡ passing_below n (is_forced rows nodes) =
-    ap (λ (b : Bool). passing_below n (is_forced rows nodes) ++ alone b n) miss ∙ append-nil (passing_below n (is_forced rows nodes)) in
-    record { counted = so_far.counted ∙ sym same; listed = so_far.listed; parents = so_far.parents; weights = so_far.weights; accesses = so_far.accesses }
+list_miss rows nodes lengths n numbers items miss so_far = grind (arith, append-nil)
 
 -- Places among rising numbers
 
@@ -99,12 +93,7 @@ find_nowhere (x ∷ xs) v none =
 
 -- rising numbers as they are read
 pub reads_rise : (xs : List ℕ) → IsRising xs → (i j : ℕ) → i ≤ j → j < length xs → get_or xs i 0 ≤ get_or xs j 0
-reads_rise xs rising i j le lt = elim (cases_eq i j) [
-  | inl e ↦ rw e (omega arith)
-  | inr ne ↦
-      let less : get_or xs i 0 < get_or xs j 0 = rising i j (get_or xs i 0) (get_or xs j 0) (omega arith) (slice_get-get_or xs i 0 (omega arith)) (slice_get-get_or xs j 0 lt) in
-      omega arith
-]
+reads_rise xs rising i j le lt = grind (arith, cases_eq, slice_get-get_or)
 
 -- listed numbers rise
 pub numbers_rise : (rows : Rows) (nodes : List ℕ) (n : ℕ) (numbers : List ℕ) → numbers ≡ passing_below n (is_forced rows nodes) → IsRising numbers

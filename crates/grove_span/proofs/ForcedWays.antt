@@ -1,10 +1,9 @@
 -- The forced nodes are those on the ways down from the top to the accessed nodes.
-use Rattle.std.proofs.Common.{◌≡◌, ℕ, zero, suc, ◌<◌, ◌≤◌, Bool, true, false, List, [], ◌∷◌, ◌++◌, length, slice_get}
-use Rattle.std.proofs.Common.{Some, refl, sym, ◌∙◌, ap, subst, inl, inr, arith, length-append}
+use Rattle.std.proofs.Common.{◌≡◌, ℕ, zero, suc, ◌<◌, ◌≤◌, true, false, List, [], ◌∷◌, ◌++◌, length, slice_get}
+use Rattle.std.proofs.Common.{Some, refl, ◌∙◌, ap, subst, inl, inr, arith}
 use Rattle.std.specs.Option.{option_and_then}
 use Rattle.std.proofs.lemmas.Option.{none-some, same_Some, slice_get_within}
 use Rattle.std.proofs.lemmas.Bool.{cases_eq, cases_lt, cases_Bool}
-use Rattle.grove_base.specs.Numbers.{passing_below}
 use Rattle.grove_tree.specs.Trees.{Rows, IsTree, IsAbove, parent_of, weight_of}
 use Rattle.grove_tree.proofs.Above.{above_self, above_le, above_trans, above_either, above_step, above_between, parent_above, parent_lt}
 use Rattle.grove_access.specs.Lists.{AreNodes}
@@ -15,23 +14,19 @@ use Rattle.grove_span.specs.SpanRows.{find_place, IsAccessedSo}
 use Rattle.grove_span.specs.Ways.{IsLowestCommon, AreAscending, AreForcedTo, IsFirstFrom, IsUnnamed, IsListedTo}
 use Rattle.grove_span.specs.Ways.{IsNextOnWay}
 use Rattle.grove_span.proofs.ForcedRows.{list_hit, list_miss}
+use Rattle.grove_base.proofs.Counting.{passing_few}
 
 -- a node that isn't forced fails the test
 unforced : (rows : Rows) (nodes : List ℕ) → IsTree rows → AreNodes rows nodes → (node : ℕ)
     → (IsForcedByTree rows nodes node → ⊥) → is_forced rows nodes node ≡ false
-unforced rows nodes tree fits node other = elim (cases_Bool (is_forced rows nodes node)) [
-  | inl h ↦ absurd (other (forced_got rows nodes node tree fits h))
-  | inr h ↦ h
-]
+unforced rows nodes tree fits node other = grind (arith, cases_Bool, forced_got)
 
 -- more nodes, none of which is forced
 pub list_misses : (rows : Rows) (nodes lengths : List ℕ) → IsTree rows → AreNodes rows nodes
     → (low high : ℕ) (numbers : List ℕ) (items : List SpanRow) → low ≤ high
     → ((node : ℕ) → low ≤ node → node < high → IsForcedByTree rows nodes node → ⊥)
     → IsListedTo rows nodes lengths low numbers items → IsListedTo rows nodes lengths high numbers items
-list_misses rows nodes lengths tree fits low zero numbers items le none so_far =
-    let e : low ≡ 0 = omega arith in
-    subst (λ (n : ℕ). IsListedTo rows nodes lengths n numbers items) e so_far
+list_misses rows nodes lengths tree fits low zero numbers items le none so_far = grind (arith)
 list_misses rows nodes lengths tree fits low (suc high) numbers items le none so_far = elim (cases_eq low (suc high)) [
   | inl e ↦ subst (λ (n : ℕ). IsListedTo rows nodes lengths n numbers items) e so_far
   | inr ne ↦ list_miss rows nodes lengths high numbers items
@@ -44,8 +39,7 @@ list_misses rows nodes lengths tree fits low (suc high) numbers items le none so
 
 -- a parent is on the way too
 pub way_up : (rows : Rows) (nodes lengths : List ℕ) (next target node parent : ℕ) (numbers : List ℕ) (items : List SpanRow)
-    → parent_of rows node ≡ Some parent → next ≤ parent
-    → IsNextOnWay rows nodes lengths next target node numbers items
+    → parent_of rows node ≡ Some parent → next ≤ parent → IsNextOnWay rows nodes lengths next target node numbers items
     → IsNextOnWay rows nodes lengths next target parent numbers items
 way_up rows nodes lengths next target node parent numbers items own le way = record {
   within = way.within;
@@ -78,27 +72,20 @@ pub unnamed_before : (rows : Rows) (nodes lengths : List ℕ) (next target node 
     → IsNextOnWay rows nodes lengths next target node numbers items → IsUnnamed nodes node
 unnamed_before rows nodes lengths next target node numbers items tree other way access named =
     let most : node ≤ target = above_le rows tree node target way.above in
-    let least : target ≤ node = way.first access node named way.ahead in
-    let e : node ≡ target = omega arith in
-    other e
-
--- there are few numbers
-passing_few : (n : ℕ) (test : ℕ → Bool) → length (passing_below n test) ≤ n
-passing_few zero test = omega arith
-passing_few (suc n) test = elim (cases_Bool (test n)) [
-  | inl h ↦ rw h (omega (arith, passing_few n test, length-append (passing_below n test) (n ∷ [])))
-  | inr h ↦ rw h (omega (arith, passing_few n test, length-append (passing_below n test) []))
-]
+    grind (arith)
 
 pub numbers_few : (rows : Rows) (nodes lengths : List ℕ) (next target node : ℕ) (numbers : List ℕ)
     (items : List SpanRow) → IsTree rows → length rows ≤ 4096
     → IsNextOnWay rows nodes lengths next target node numbers items → length numbers ≤ 4096
 numbers_few rows nodes lengths next target node numbers items tree few way =
-    let most : node ≤ target = above_le rows tree node target way.above in
-    let ahead : next ≤ node = way.ahead in
-    let within : target < length rows = way.within in
-    let size : length numbers ≡ length (passing_below next (is_forced rows nodes)) = ap length way.listed.counted in
-    omega (arith, passing_few next (is_forced rows nodes))
+    omega (
+      arith,
+      passing_few next (is_forced rows nodes),
+      above_le rows tree node target way.above,
+      way.ahead,
+      way.within,
+      ap length way.listed.counted,
+    )
 
 -- between the last number and a node on the way whose parent is listed none is forced
 none_before : (rows : Rows) (nodes lengths : List ℕ) (next target node : ℕ) (numbers : List ℕ) (items : List SpanRow)
@@ -114,9 +101,7 @@ none_before rows nodes lengths next target node numbers items tree listed way ot
         | inl same ↦ omega arith
         | inr further ↦
             let (parent, own, up) = further in
-            let low : other ≤ parent = above_le rows tree other parent up in
-            let less : parent < next = listed parent own in
-            omega arith
+            omega (arith, above_le rows tree other parent up, listed parent own)
       ]
     ]
 
@@ -147,13 +132,7 @@ way_lists rows nodes lengths next after target node numbers more items grown row
 past_next : (nodes : List ℕ) (i node next : ℕ) → slice_get nodes i ≡ Some node → node < next
     → ((j other : ℕ) → j < i → slice_get nodes j ≡ Some other → other < next)
     → (j other : ℕ) → j < suc i → slice_get nodes j ≡ Some other → other < next
-past_next nodes i node next at lt before j other less is = elim (cases_eq j i) [
-  | inl e ↦
-      let same : node ≡ other = same_Some node other
-      (sym at ∙ subst (λ (k : ℕ). slice_get nodes k ≡ Some other) e is) in
-      omega arith
-  | inr ne ↦ before j other (omega arith) is
-]
+past_next nodes i node next at lt before j other less is = grind (arith, cases_eq, same_Some)
 
 -- the rows so far, when i targets were looked at
 pub record IsSpannedTo (rows : Rows) (nodes lengths targets : List ℕ) (top i next : ℕ) (numbers : List ℕ)
@@ -169,8 +148,7 @@ pub span_begins : (rows : Rows) (nodes lengths targets : List ℕ) (top : ℕ) (
     → items ≡ [] → numbers ≡ [] → IsSpannedTo rows nodes lengths targets top 0 top numbers items
 span_begins rows nodes lengths targets top numbers items tree fits lowest within none unplaced = record {
   listed = list_misses rows nodes lengths tree fits 0 top numbers items (omega arith)
-      (λ node from to forced. let le : top ≤ node =
-      above_le rows tree top node (forced.below top lowest.common) in omega arith)
+      (λ node from to forced. omega (arith, above_le rows tree top node (forced.below top lowest.common)))
       (rw (none, unplaced) (record {
         counted = refl;
         listed = refl;
@@ -188,11 +166,7 @@ first_from : (rows : Rows) (nodes lengths targets : List ℕ) (top i next target
     (items : List SpanRow) → AreAscending nodes targets → slice_get targets i ≡ Some target
     → IsSpannedTo rows nodes lengths targets top i next numbers items → IsFirstFrom nodes next target
 first_from rows nodes lengths targets top i next target numbers items ascending at so_far access node named from =
-    let (j, there) = ascending.all access node named in
-    elim (cases_lt j i) [
-      | inl before ↦ let less : node < next = so_far.past j node before there in omega arith
-      | inr after ↦ ascending.rising i j target node (omega arith) at there
-    ]
+    grind (arith, cases_lt)
 
 -- and just the nodes above it are forced
 forced_to : (rows : Rows) (nodes lengths targets : List ℕ) (top i next target : ℕ) (numbers : List ℕ)
@@ -214,16 +188,14 @@ forced_to rows nodes lengths targets top i next target numbers items tree fits l
             | inl higher ↦ higher
             | inr lower ↦
                 let le : node ≤ top = above_le rows tree node top lower in
-                let e : top ≡ node = omega arith in
-                subst (λ (v : ℕ). IsAbove rows top v) e (above_self rows top)
+                grind (arith, above_self)
           ] in
           record {
             access = access;
             target = target;
             names = named;
             covers = above;
-            below =
-                λ common is. above_trans rows common top node (lowest.lowest common is) over;
+            below = λ common is. above_trans rows common top node (lowest.lowest common is) over;
           },
     )
 
@@ -251,26 +223,14 @@ pub span_next : (rows : Rows) (nodes lengths targets : List ℕ) (top i next tar
     → IsSpannedTo rows nodes lengths targets top i next numbers items
     → IsSpannedTo rows nodes lengths targets top (suc i) (suc target) more grown
 span_next rows nodes lengths targets top i next target numbers more items grown at within le listed so_far =
-    let first : top ≤ next = so_far.from in
-    record {
-      listed = listed;
-      from = omega arith;
-      within = omega arith;
-      past = past_next targets i target (suc target) at (omega arith)
-          (λ j other lt there. let less : other < next = so_far.past j other lt there in omega arith);
-    }
+    grind (arith, past_next)
 
 -- a target that was listed on the way to another
 pub span_skips : (rows : Rows) (nodes lengths targets : List ℕ) (top i next target : ℕ) (numbers : List ℕ)
     (items : List SpanRow) → slice_get targets i ≡ Some target → target < next
     → IsSpannedTo rows nodes lengths targets top i next numbers items
     → IsSpannedTo rows nodes lengths targets top (suc i) next numbers items
-span_skips rows nodes lengths targets top i next target numbers items at lt so_far = record {
-  listed = so_far.listed;
-  from = so_far.from;
-  within = so_far.within;
-  past = past_next targets i target next at lt so_far.past;
-}
+span_skips rows nodes lengths targets top i next target numbers items at lt so_far = grind (arith, past_next)
 
 -- after all targets no more nodes are forced
 pub span_ends : (rows : Rows) (nodes lengths targets : List ℕ) (top i next : ℕ) (numbers : List ℕ)
@@ -281,6 +241,8 @@ span_ends rows nodes lengths targets top i next numbers items tree fits ascendin
     list_misses rows nodes lengths tree fits next (length rows) numbers items so_far.within (λ node from to forced.
     let (j, there) = ascending.all forced.access forced.target forced.names in
     let lt : j < length targets = slice_get_within targets j forced.target there in
-    let past : forced.target < next = so_far.past j forced.target (omega arith) there in
-    let low : node ≤ forced.target = above_le rows tree node forced.target forced.covers in
-    omega arith) so_far.listed
+    omega (
+      arith,
+      so_far.past j forced.target (omega arith) there,
+      above_le rows tree node forced.target forced.covers,
+    )) so_far.listed

@@ -3,5 +3,4 @@ pub mod Ascending
 pub mod ForcedWays
 pub mod FirstAndLast
 pub mod ForcedRows
-pub mod Accesses
 pub mod VisitSlots

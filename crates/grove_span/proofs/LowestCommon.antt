@@ -31,25 +31,8 @@ lowest_of_ends rows targets end first last top tree within ascending size first_
       lowest = λ node all. least node (all 0 first first_at) (all end last last_at);
     }
 
--- a lowest node above the targets is one above the accessed nodes that they are
-pub lowest_of_targets : (rows : Rows) (nodes targets : List ℕ) (top : ℕ) → AreAscending nodes targets
-    → IsLowestCommon rows targets top
-    → IsLowestCommon rows nodes top
-lowest_of_targets rows nodes targets top are is = record {
-  common = λ access target at. let (i, there) = are.all access target at in is.common i target there;
-  lowest = λ node all. is.lowest node
-      (λ i target at. let (access, there) = are.named i target at in all access target there);
-}
-
 -- accessed nodes give targets
 pub targets_some : (nodes targets : List ℕ) → AreAscending nodes targets → 0 < length nodes → 0 < length targets
 targets_some nodes targets are some =
     let (i, there) = are.all 0 (get_or nodes 0 0) (slice_get-get_or nodes 0 0 some) in
-    let inside : i < length targets = slice_get_within targets i (get_or nodes 0 0) there in
-    omega arith
-
--- which are nodes where these are
-pub targets_fit : (rows : Rows) (nodes targets : List ℕ) → AreAscending nodes targets → AreNodes rows nodes
-    → AreNodes rows targets
-targets_fit rows nodes targets are fits i target at = let (access, named) =
-    are.named i target at in fits access target named
+    omega (arith, slice_get_within targets i (get_or nodes 0 0) there)

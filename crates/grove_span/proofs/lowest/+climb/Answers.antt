@@ -1,4 +1,4 @@
-use Rattle.std.proofs.Common.{◌≡◌, ◌<◌, ℕ, Some, None, sym, ◌∙◌, subst, arith, length}
+use Rattle.std.proofs.Common.{◌≡◌, ℕ, None, sym, ◌∙◌, subst, arith}
 use Rattle.std.proofs.lemmas.Bool.{both_ways}
 use Rattle.grove_tree.specs.Trees.{IsAbove, parent_of}
 use Rattle.grove_tree.proofs.Above.{parent_lt, above_child, above_parent}
@@ -6,11 +6,7 @@ use Rattle.grove_span.proofs.LowestCommon.{top_above}
 use Rattle.grove_span.proofs.lowest.+climb.Goals as goal
 
 pub climb-requires : goal.climb-requires
-climb-requires t c =
-    let is : parent_of c.args.tree.now c.args.from ≡ Some c.in-Some.parent = sym c.parent.ensures ∙ c.in-Some.is in
-    let less : c.in-Some.parent < c.args.from = parent_lt c.args.tree.now c.requires.tree c.args.from c.in-Some.parent is in
-    let within : c.args.from < length c.args.tree.now = c.requires.from in
-    (omega arith, (c.requires.tree, (omega arith, c.requires.target)))
+climb-requires t c = grind (arith, parent_lt)
 
 pub unreachable-requires : goal.unreachable-requires
 unreachable-requires t c =

@@ -1,16 +1,13 @@
-use Rattle.std.proofs.Common.{◌≡◌, ◌<◌, ◌∙◌, sym, ap, map, length, arith, subst, ℕ, List}
+use Rattle.std.proofs.Common.{◌≡◌, ◌<◌, sym, length, arith, subst, ℕ, List}
 use Rattle.grove_access.specs.Lists.{nodes_of}
 use Rattle.grove_access.proofs.Lists.{nodes_length}
-use Rattle.grove_span.specs.SpanRows.{node_of_row}
 use Rattle.grove_span.specs.Ways.{AreAscending}
 use Rattle.grove_span.proofs.ForcedRows.{none_forced}
-use Rattle.grove_span.proofs.LowestCommon.{lowest_of_targets, targets_some, targets_fit}
+use Rattle.grove_span.proofs.LowestCommon.{targets_some}
 use Rattle.grove_span.proofs.spanning.span.Goals as goal
 
 pub returns-then-len-eq0-clause-nodes : goal.returns-then-len-eq0-clause-nodes
-returns-then-len-eq0-clause-nodes c =
-    ap (map node_of_row) c.new.ensures.items
-    ∙ sym (none_forced c.args.tree.now (nodes_of c.args.list.now) (nodes_length c.args.list.now ∙ sym c.len.ensures.number ∙ c.if-len-eq0.true))
+returns-then-len-eq0-clause-nodes c = grind (arith, nodes_length, none_forced)
 
 pub lowest_common-top-requires-clause-some : goal.lowest_common-top-requires-clause-some
 lowest_common-top-requires-clause-some c =
@@ -22,13 +19,7 @@ lowest_common-top-requires-clause-some c =
     (sym c.deref.ensures.value) c.in_ok-targets.ensures) some
 
 pub lowest_common-top-requires-clause-within : goal.lowest_common-top-requires-clause-within
-lowest_common-top-requires-clause-within c =
-    targets_fit c.args.tree.now (nodes_of c.args.list.now) c.deref.result.now
-    (subst (λ (xs : List ℕ). AreAscending (nodes_of c.args.list.now) xs)
-    (sym c.deref.ensures.value) c.in_ok-targets.ensures) c.requires.fits
+lowest_common-top-requires-clause-within c = grind (arith)
 
 pub forced_rows-requires-clause-top : goal.forced_rows-requires-clause-top
-forced_rows-requires-clause-top c =
-    lowest_of_targets c.args.tree.now (nodes_of c.args.list.now) c.deref.result.now c.lowest_common-top.result
-    (subst (λ (xs : List ℕ). AreAscending (nodes_of c.args.list.now) xs)
-    (sym c.deref.ensures.value) c.in_ok-targets.ensures) c.lowest_common-top.ensures.lowest
+forced_rows-requires-clause-top c = grind (arith)

@@ -5,7 +5,7 @@ use Rattle.grove_tree.specs.Trees.{parent_of}
 use Rattle.grove_tree.proofs.Above.{above_within, parent_lt}
 use Rattle.grove_access.specs.Lists.{nodes_of, lengths_of}
 use Rattle.grove_span.specs.SpanRows.{find_place}
-use Rattle.grove_span.specs.Ways.{IsNextOnWay, IsRising}
+use Rattle.grove_span.specs.Ways.{IsNextOnWay}
 use Rattle.grove_span.proofs.ForcedRows.{numbers_rise}
 use Rattle.grove_span.proofs.ForcedWays.{way_up, way_back, way_lists, unnamed_before, numbers_few}
 use Rattle.grove_span.proofs.rows.Listed.+listing.Goals as goal
@@ -38,9 +38,7 @@ push_way-parent_place-place-requires-clause-few t c =
     c.in_ok-push_above.ensures.way)
 
 pub push_way-parent_place-place-requires-clause-rising : goal.push_way-parent_place-place-requires-clause-rising
-push_way-parent_place-place-requires-clause-rising t c =
-    subst (λ (xs : List ℕ). IsRising xs) (sym c.deref.ensures.value)
-    (numbers_rise c.args.tree.now (nodes_of c.args.list.now) c.push_above.new.self.next _ c.in_ok-push_above.ensures.way.listed.counted)
+push_way-parent_place-place-requires-clause-rising t c = grind (arith, numbers_rise)
 
 pub push_way-visits_at-visits-requires : goal.push_way-visits_at-visits-requires
 push_way-visits_at-visits-requires t c = λ other.
