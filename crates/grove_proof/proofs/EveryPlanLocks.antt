@@ -1,5 +1,6 @@
 -- Every legal plan locks the nodes that the tree forces: each locked node has a chain of locked nodes up to the first lock's node.
-use Rattle.std.proofs.Common.{◌≡◌, ℕ, zero, suc, ◌+◌, ◌-◌, ◌<◌, ◌≤◌, true, ◌⊎◌, List, length, Some, refl, sym, ◌∙◌, ap, subst, inl, inr, arith}
+use Rattle.std.proofs.Common.{◌≡◌, ℕ, zero, suc, ◌-◌, ◌<◌, ◌≤◌, true, ◌⊎◌, List, length, Some, refl, sym, ◌∙◌, ap, inl}
+use Rattle.std.proofs.Common.{inr, arith}
 use Rattle.std.specs.List.{slice_get}
 use Rattle.std.proofs.lemmas.Option.{same_Some, slice_get_within}
 use Rattle.std.proofs.lemmas.Bool.{cases_lt, cases_order, cases_Bool, both_ways}
@@ -31,23 +32,14 @@ pub record HasChain (rows : Rows) (plan : List Step) (v : ℕ) : Type 0 where
 -- some lock stands before a place, or none does
 pub later_or_first : (plan : List Step) (i : ℕ) → IsLater plan i ⊎ ((j v : ℕ) → j < i → slice_get plan j ≡ Some (Lock v) → ⊥)
 later_or_first plan i = elim (cases_Bool (any_below i (λ j. is_lock (slice_get plan j)))) [
-  | inl some ↦
-      let found : (j : ℕ) × (j < i) × (is_lock (slice_get plan j) ≡ true) = any_true i (λ j. is_lock (slice_get plan j)) some in
-      let lock : (v : ℕ) × (slice_get plan found.0 ≡ Some (Lock v)) = is_lock_true (slice_get plan found.0) found.2 in
-      inl (found.0, lock.0, found.1, lock.1)
+  | inl some ↦ grind (arith, any_true, is_lock_true)
   | inr none ↦ inr (λ j v lt h.
       both_ways (is_lock (slice_get plan j)) (any_false i (λ j. is_lock (slice_get plan j)) none j lt) (ap is_lock h))
 ]
 
 -- there is one first lock
 pub first_lock_one : (plan : List Step) (a b i j : ℕ) → IsFirstLock plan a i → IsFirstLock plan b j → (i ≡ j) × (a ≡ b)
-first_lock_one plan a b i j h k = elim (cases_order i j) [
-  | inl e ↦ (e, lock_same a b (same_Some (Lock a) (Lock b) (sym h.there ∙ subst (λ (n : ℕ). slice_get plan n ≡ Some (Lock b)) (sym e) k.there)))
-  | inr ne ↦ elim ne [
-    | inl lt ↦ absurd (k.first i a lt h.there)
-    | inr gt ↦ absurd (h.first j b gt k.there)
-  ]
-]
+first_lock_one plan a b i j h k = grind (arith, cases_order, lock_same, same_Some)
 
 -- every node on no way at all, and on a way that is one step longer
 chain_none : (rows : Rows) (plan : List Step) (v i : ℕ) → slice_get plan i ≡ Some (Lock v) → (k w : ℕ) → k ≤ 0 → up rows k v ≡ Some w → IsLockedBy plan w
@@ -124,8 +116,7 @@ pub first_is_common : (rows : Rows) (nodes : List ℕ) (plan : List Step) → Is
     → (top i : ℕ) → IsFirstLock plan top i → IsCommon rows nodes top
 first_is_common rows nodes plan legal top i first access target h =
     let chain : HasChain rows plan target = accessed_chain rows nodes plan legal access target h in
-    let one : (chain.at ≡ i) × (chain.top ≡ top) = first_lock_one plan chain.top top chain.at i chain.first first in
-    (chain.steps, chain.leads ∙ ap (λ (n : ℕ). Some n) one.1)
+    grind (arith, first_lock_one)
 
 -- a node that the tree forces is locked in every legal plan
 pub by_tree_is_forced : (rows : Rows) (nodes : List ℕ) (node : ℕ) → IsTree rows → IsForcedByTree rows nodes node → IsForced rows nodes node
@@ -137,7 +128,5 @@ by_tree_is_forced rows nodes node tree forced plan legal =
       | inr le ↦ chain.locked covers.0 node le covers.1
       | inl lt ↦
           let higher : up rows (covers.0 - chain.steps) chain.top ≡ Some node = above_linear rows chain.steps covers.0 forced.target chain.top node chain.leads covers.1 (omega arith) in
-          let down : node + (covers.0 - chain.steps) ≤ chain.top = up_le rows tree (covers.0 - chain.steps) chain.top node higher in
-          let back : chain.top + below.0 ≤ node = up_le rows tree below.0 node chain.top below.1 in
-          absurd (omega arith)
+          grind (arith, up_le)
     ]

@@ -1,5 +1,6 @@
 -- The locks and releases of a legal plan meet the five constraints.
-use Rattle.std.proofs.Common.{◌≡◌, ℕ, zero, suc, ◌+◌, ◌<◌, ◌≤◌, true, false, cond, List, length, Option, Some, None, refl, sym, ◌∙◌, ap, subst, inl, inr, zero-add, arith}
+use Rattle.std.proofs.Common.{◌≡◌, ℕ, zero, suc, ◌+◌, ◌<◌, ◌≤◌, true, false, cond, List, length, Option, Some, None}
+use Rattle.std.proofs.Common.{refl, sym, ◌∙◌, ap, inl, inr, zero-add, arith}
 use Rattle.std.specs.Prelude.{slice_index}
 use Rattle.std.specs.List.{slice_get}
 use Rattle.std.proofs.lemmas.Option.{same_Some, slice_get_within}
@@ -8,7 +9,6 @@ use Rattle.grove_base.specs.Numbers.{any_below, sum_below}
 use Rattle.grove_tree.specs.Trees.{Rows, parent_of, IsTree}
 use Rattle.grove_base.proofs.Counting.{any_true, any_from, any_false, count_mono, count_hit, least_is, numbers_got}
 use Rattle.grove_tree.proofs.Above.{above_le, parent_lt}
-use Rattle.grove_access.specs.Lists.{AreNodes}
 use Rattle.grove_access.specs.Slots.{slots_before}
 use Rattle.grove_access.specs.Forced.{IsCommon, IsForcedByTree}
 use Rattle.grove_access.proofs.Slots.{slots_rise}
@@ -40,9 +40,7 @@ module _ (rows : Rows) (nodes : List ℕ) (plan : List Step) (legal : IsLegal ro
   lock_before : (i j v : ℕ) → slice_get plan i ≡ Some (Lock v) → slice_get plan j ≡ Some (Unlock v) → i < j
   lock_before i j v h k =
       let at : HeldAt plan v j = held_at plan v j (legal.obeys.unlocks_held j v k) in
-      let e : at.at ≡ i = legal.obeys.once at.at i v at.is_lock h in
-      let lt : at.at < j = at.before in
-      omega arith
+      omega (arith, legal.obeys.once at.at i v at.is_lock h, at.before)
 
   -- a locked node is unlocked once
   unlock_order : (j k v : ℕ) → slice_get plan j ≡ Some (Unlock v) → slice_get plan k ≡ Some (Unlock v) → j < k → ⊥
@@ -51,20 +49,12 @@ module _ (rows : Rows) (nodes : List ℕ) (plan : List Step) (legal : IsLegal ro
       at.kept j (lock_before at.at j v at.is_lock h) lt h
 
   unlock_once : (j k v : ℕ) → slice_get plan j ≡ Some (Unlock v) → slice_get plan k ≡ Some (Unlock v) → j ≡ k
-  unlock_once j k v h g = elim (cases_order j k) [
-    | inl e ↦ e
-    | inr ne ↦ elim ne [
-      | inl lt ↦ absurd (unlock_order j k v h g lt)
-      | inr gt ↦ absurd (unlock_order k j v g h gt)
-    ]
-  ]
+  unlock_once j k v h g = grind (arith, cases_order, unlock_order)
 
   -- and once at least
   has_unlock : (i v : ℕ) → slice_get plan i ≡ Some (Lock v) → (j : ℕ) × (slice_get plan j ≡ Some (Unlock v))
   has_unlock i v h = elim (cases_Bool (any_below (length plan) (λ j. unlocks v (slice_get plan j)))) [
-    | inl some ↦
-        let found : (j : ℕ) × (j < length plan) × (unlocks v (slice_get plan j) ≡ true) = any_true (length plan) (λ j. unlocks v (slice_get plan j)) some in
-        (found.0, unlocks_true v (slice_get plan found.0) found.2)
+    | inl some ↦ grind (arith, any_true, unlocks_true)
     | inr none ↦ absurd (both_ways (held plan v (length plan)) (legal.obeys.ends_free v)
         (held_from plan v (length plan) (record {
           at = i;
@@ -89,25 +79,7 @@ module _ (rows : Rows) (nodes : List ℕ) (plan : List Step) (legal : IsLegal ro
 
   -- the places of a locked node
   pub places : (i v : ℕ) → slice_get plan i ≡ Some (Lock v) → HasPlaces plan v
-  places i v h =
-      let found : (j : ℕ) × (slice_get plan j ≡ Some (Unlock v)) = has_unlock i v h in
-      record {
-        lock = i;
-        unlock = found.0;
-        is_lock = h;
-        is_unlock = found.1;
-        before = lock_before i found.0 v h found.1;
-        lock_is = lock_place_is i v h;
-        unlock_is = release_place_is found.0 v found.1;
-        only_unlock = λ j is. unlock_once j found.0 v is found.1;
-        only_lock = λ j is. legal.obeys.once j i v is h;
-      }
-
-  -- the nodes of the list are nodes of the tree
-  pub legal_are_nodes : AreNodes rows nodes
-  legal_are_nodes access target h =
-      let done : IsPerformed plan access target = performed rows nodes plan legal access target h in
-      legal.obeys.locks_nodes done.held.at target done.held.is_lock
+  places i v h = grind (arith, has_unlock, lock_before, lock_place_is, release_place_is, unlock_once)
 
 -- at most, and another number
 less_or_same : (a b : ℕ) → a ≤ b → (a ≡ b → ⊥) → suc a ≤ b
@@ -115,25 +87,11 @@ less_or_same a b le ne = elim (cases_lt a b) [ inl lt ↦ lt | inr ge ↦ absurd
 
 -- a node is held from after its lock up to its unlock
 pub held_within : (plan : List Step) (v q : ℕ) (at : HasPlaces plan v) → at.lock < q → q ≤ at.unlock → held plan v q ≡ true
-held_within plan v q at above below = held_from plan v q (record {
-  at = at.lock;
-  before = above;
-  is_lock = at.is_lock;
-  kept = λ j after before is. let e : j ≡ at.unlock = at.only_unlock j is in omega arith;
-})
+held_within plan v q at above below = grind (arith, held_from)
 
 -- and at no other place
 pub held_only : (plan : List Step) (v q : ℕ) (at : HasPlaces plan v) → HeldAt plan v q → (at.lock < q) × (q ≤ at.unlock)
-held_only plan v q at h =
-    let e : h.at ≡ at.lock = at.only_lock h.at h.is_lock in
-    let lt : h.at < q = h.before in
-    let order : at.lock < at.unlock = at.before in (
-      omega arith,
-      elim (cases_lt at.unlock q) [
-        | inl past ↦ absurd (h.kept at.unlock (omega arith) past at.is_unlock)
-        | inr le ↦ le
-      ],
-    )
+held_only plan v q at h = grind (arith, cases_lt)
 
 -- the sums that meet in a holding
 sums_meet : (lock a b hold c d e f release : ℕ) → lock ≡ a → b ≡ a → hold ≡ c → c ≡ d → b + d ≡ e → e ≡ f → release ≡ f → lock + hold ≡ release
@@ -163,8 +121,7 @@ slots_taken rows nodes lengths plan legal (suc place) =
 -- a step that takes no slots
 none_taken : (lengths : List ℕ) (plan : List Step) (i : ℕ) (step : Step) → slice_get plan i ≡ Some step → slots_of lengths (Some step) ≡ 0
     → sum_below (suc i) (λ q. slots_of lengths (slice_get plan q)) ≡ sum_below i (λ q. slots_of lengths (slice_get plan q))
-none_taken lengths plan i step h none =
-    let here : slots_of lengths (slice_get plan i) ≡ 0 = ap (slots_of lengths) h ∙ none in omega arith
+none_taken lengths plan i step h none = grind (arith)
 
 -- the holding lasts from the lock's time to the release's
 pub holding_is : (rows : Rows) (nodes lengths : List ℕ) (plan : List Step) (v : ℕ) → IsLegal rows nodes plan → HasPlaces plan v
@@ -183,15 +140,7 @@ holding_is rows nodes lengths plan v legal at =
     sum_stops part (suc at.unlock)
     (λ q above. cond-false (held plan v q) (slots q) 0 (held_not plan v q (λ h. let in_time : (at.lock < q) × (q ≤ at.unlock) = held_only plan v q at h in let high : q ≤ at.unlock = in_time.1 in omega arith)))
     (length plan) (omega arith) in
-    let first : sum_below (suc at.lock) slots ≡ sum_below at.lock slots = none_taken lengths plan at.lock (Lock v) at.is_lock refl in
-    let last : sum_below (suc at.unlock) slots ≡ sum_below at.unlock slots = none_taken lengths plan at.unlock (Unlock v) at.is_unlock refl in
-    let lock : lock_time lengths plan v ≡ sum_below at.lock slots =
-    ap (λ (i : ℕ). slots_before lengths (accesses_before plan i)) at.lock_is ∙ sym (slots_taken rows nodes lengths plan legal at.lock) in
-    let release : release_time lengths plan v ≡ sum_below at.unlock slots =
-    ap (λ (i : ℕ). slots_before lengths (accesses_before plan i)) at.unlock_is ∙ sym (slots_taken rows nodes lengths plan legal at.unlock) in
-    let all : holding lengths plan v ≡ sum_below (length plan) part = refl in
-    sums_meet (lock_time lengths plan v) (sum_below at.lock slots) (sum_below (suc at.lock) slots) (holding lengths plan v) (sum_below (length plan) part) (sum_below (suc at.unlock) part)
-    (sum_below (suc at.unlock) slots) (sum_below at.unlock slots) (release_time lengths plan v) lock first all stops window last release
+    grind (arith, none_taken, slots_taken, sums_meet)
 
 -- the places of a forced node
 pub forced_places : (rows : Rows) (nodes : List ℕ) (plan : List Step) (v : ℕ) → IsTree rows → IsLegal rows nodes plan → IsForcedByTree rows nodes v → HasPlaces plan v
@@ -203,14 +152,10 @@ forced_places rows nodes plan v tree legal forced =
 parent_held : (rows : Rows) (nodes : List ℕ) (plan : List Step) (v p i : ℕ) → IsTree rows → IsLegal rows nodes plan → IsForcedByTree rows nodes p → parent_of rows v ≡ Some p
     → slice_get plan i ≡ Some (Lock v) → HeldAt plan p i
 parent_held rows nodes plan v p i tree legal forced e h = elim (later_or_first plan i) [
-  | inl later ↦
-      let up_one : (parent : ℕ) × (parent_of rows v ≡ Some parent) × (held plan parent i ≡ true) = legal.obeys.parents i v h later in
-      held_at plan p i (subst (λ (w : ℕ). held plan w i ≡ true) (same_Some up_one.0 p (sym up_one.1 ∙ e)) up_one.2)
+  | inl later ↦ grind (arith, held_at, same_Some)
   | inr first ↦
       let common : IsCommon rows nodes v = first_is_common rows nodes plan legal v i (record { there = h; first = first }) in
-      let le : v ≤ p = above_le rows tree v p (forced.below v common) in
-      let lt : p < v = parent_lt rows tree v p e in
-      absurd (omega arith)
+      absurd (omega (arith, above_le rows tree v p (forced.below v common), parent_lt rows tree v p e))
 ]
 
 -- the same order, by how many accesses are done before each lock and release
@@ -238,11 +183,7 @@ keeps_order rows nodes plan tree legal = record {
   first = λ v access h.
       let at : HasPlaces plan v = forced_places rows nodes plan v tree legal (accessed_is_forced rows nodes access v h) in
       let done : IsPerformed plan access v = performed rows nodes plan legal access v h in
-      let in_time : (at.lock < done.place) × (done.place ≤ at.unlock) = held_only plan v done.place at done.held in
-      let lt : at.lock < done.place = in_time.0 in
-      let le : accesses_before plan at.lock ≤ accesses_before plan done.place = count_mono at.lock done.place (λ k. is_access (slice_get plan k)) (omega arith) in
-      let e : accesses_before plan done.place ≡ access = done.before in
-      rw at.lock_is (omega arith);
+      grind (arith, count_mono, held_only);
   last = λ v access h.
       let at : HasPlaces plan v = forced_places rows nodes plan v tree legal (accessed_is_forced rows nodes access v h) in
       let done : IsPerformed plan access v = performed rows nodes plan legal access v h in

@@ -30,10 +30,7 @@ first_same x y xs ys up_x up_y h k = elim (among_cases y ys x h) [
   | inl e ↦ sym e
   | inr later ↦ elim (among_cases x xs y k) [
     | inl e ↦ e
-    | inr other ↦
-        let less : y < x = above_first y ys up_y x later in
-        let more : x < y = above_first x xs up_x y other in
-        absurd (omega arith)
+    | inr other ↦ absurd (omega (arith, above_first y ys up_y x later, above_first x xs up_x y other))
   ]
 ]
 

@@ -1,11 +1,12 @@
 -- Loop steps of the marks of the forced nodes.
-use Rattle.std.proofs.Common.{◌≡◌, ℕ, suc, ◌+◌, ◌<◌, Bool, true, false, ◌⊎◌, List, [], ◌∷◌, ◌++◌, length, get_or, Some, None, refl, sym, ◌∙◌, ap, subst, inl, inr, arith, length-set, append-nil}
+use Rattle.std.proofs.Common.{◌≡◌, ℕ, ◌+◌, ◌<◌, Bool, true, false, ◌⊎◌, List, [], ◌∷◌, ◌++◌, length, get_or, Some, None}
+use Rattle.std.proofs.Common.{sym, ◌∙◌, ap, subst, inl, inr, arith, length-set, append-nil}
 use Rattle.std.proofs.lemmas.List.{length-replicate}
 use Rattle.std.proofs.Math.ListN.{set, replicate}
 use Rattle.std.specs.List.{slice_get}
 use Rattle.std.proofs.lemmas.Option.{none-some, same_Some, slice_get_within, slice_get-get_or, slice_get_past}
 use Rattle.std.proofs.lemmas.Bool.{cases_lt, cases_eq, cases_Bool, both_ways, false_from_ne_true}
-use Rattle.grove_base.specs.Numbers.{passing_below, alone}
+use Rattle.grove_base.specs.Numbers.{passing_below}
 use Rattle.grove_tree.specs.Trees.{Rows, parent_of, IsAbove, IsTree}
 use Rattle.grove_base.proofs.Lists.{get_set_same, get_set_other, get_replicate}
 use Rattle.grove_tree.proofs.Above.{above_trans, above_step, above_self, above_same, above_either, parent_above, parent_lt}
@@ -38,24 +39,13 @@ way_start rows top from marks tree size within above = record {
 
 -- with one more node marked
 marked_more : (marks : List Bool) (at v : ℕ) → at < length marks → IsMarked marks v → IsMarked (set marks at true) v
-marked_more marks at v within is = elim (cases_eq v at) [
-  | inl e ↦ rw e (get_set_same marks at true within)
-  | inr ne ↦ get_set_other marks at v true ne ∙ is
-]
+marked_more marks at v within is = grind (arith, cases_eq, get_set_other, get_set_same)
 
 way_sound : (rows : Rows) (top from at : ℕ) (old new : List Bool) → IsOnWay rows top from at old new → (v : ℕ) → IsMarked (set new at true) v → IsMarked old v ⊎ (IsAbove rows v from × IsAbove rows top v)
-way_sound rows top from at old new so_far v is = elim (cases_eq v at) [
-  | inl e ↦ inr (subst (λ (w : ℕ). IsAbove rows w from) (sym e) so_far.above, subst (λ (w : ℕ). IsAbove rows top w) (sym e) so_far.below)
-  | inr ne ↦ so_far.sound v (sym (get_set_other new at v true ne) ∙ is)
-]
+way_sound rows top from at old new so_far v is = grind (arith, cases_eq, get_set_other)
 
 way_done : (rows : Rows) (top from at : ℕ) (old new : List Bool) → IsTree rows → IsOnWay rows top from at old new → (v : ℕ) → IsAbove rows v from → IsAbove rows at v → IsMarked (set new at true) v
-way_done rows top from at old new tree so_far v up_v down =
-    let within : at < length new = rw so_far.size so_far.within in
-    elim (cases_eq v at) [
-      | inl e ↦ rw e (get_set_same new at true within)
-      | inr ne ↦ marked_more new at v within (so_far.done v up_v down ne)
-    ]
+way_done rows top from at old new tree so_far v up_v down = grind (arith, cases_eq, get_set_same, marked_more)
 
 -- one node of the way is marked, and the way goes on at its parent
 pub way_step : (rows : Rows) (top from at p : ℕ) (old new : List Bool) → IsTree rows → IsOnWay rows top from at old new → (at ≡ top → ⊥) → parent_of rows at ≡ Some p
@@ -119,19 +109,13 @@ ways_step rows nodes top n target old new lowest so_far names way size = record 
       below = λ common is_common. above_trans rows common top v (lowest.lowest common (λ access other lt there. is_common access other there)) now.1;
     }
   ];
-  done = λ access other v lt there up_v down. elim (cases_eq access n) [
-    | inl e ↦ way.done v (subst (λ (t : ℕ). IsAbove rows v t) (same_Some other target (sym there ∙ (ap (λ (i : ℕ). slice_get nodes i) e ∙ names))) up_v) down
-    | inr ne ↦ way.kept v (so_far.done access other v (omega arith) there up_v down)
-  ];
+  done = grind (arith, cases_eq, same_Some);
 }
 
 -- with all ways marked all forced nodes are
 pub ways_end : (rows : Rows) (nodes : List ℕ) (top n : ℕ) (marks : List Bool) → IsLowest rows nodes (length nodes) top → AreWays rows nodes top n marks → n ≡ length nodes
     → (v : ℕ) → IsForcedByTree rows nodes v → IsMarked marks v
-ways_end rows nodes top n marks lowest all e v forced =
-    let lt : forced.access < length nodes = slice_get_within nodes forced.access forced.target forced.names in
-    all.done forced.access forced.target v (omega arith) forced.names forced.covers
-    (forced.below top (λ access target names. lowest.over access target (slice_get_within nodes access target names) names))
+ways_end rows nodes top n marks lowest all e v forced = grind (arith, slice_get_within)
 
 -- marks of the forced nodes
 pub marks_forced : (rows : Rows) (nodes : List ℕ) (marks : List Bool) → IsTree rows → AreNodes rows nodes → length marks ≡ length rows
@@ -142,17 +126,14 @@ marks_forced rows nodes marks tree fits size sound complete = record {
       let there : slice_get marks v ≡ Some (get_or marks v false) = slice_get-get_or marks v false (rw size lt) in
       there ∙ ap (λ (b : Bool). Some b) (elim (cases_Bool (get_or marks v false)) [
         | inl e ↦ e ∙ sym (forced_get rows nodes v tree (sound v (there ∙ ap (λ (b : Bool). Some b) e)))
-        | inr e ↦ e ∙ sym (false_from_ne_true (is_forced rows nodes v)
-            (λ is. both_ways (get_or marks v false) e (same_Some (get_or marks v false) true (sym there ∙ complete v (forced_got rows nodes v tree fits is)))))
+        | inr e ↦ grind (arith, both_ways, false_from_ne_true, forced_got, same_Some)
       ]);
 }
 
 -- nothing is marked at first, and nothing is forced without accesses
 pub none_marked : (n v : ℕ) → IsMarked (replicate n false) v → ⊥
-none_marked n v is = elim (cases_lt v n) [
-  | inl lt ↦ both_ways true (same_Some true false (sym is ∙ get_replicate n false v lt)) refl
-  | inr ge ↦ none-some true (sym (slice_get_past (replicate n false) v (rw length-replicate ge)) ∙ is)
-]
+none_marked n v is =
+    grind (arith, both_ways, cases_lt, get_replicate, length-replicate, none-some, same_Some, slice_get_past)
 
 -- a list without accesses forces no node
 pub none_forced : (rows : Rows) (nodes : List ℕ) (v : ℕ) → length nodes ≡ 0 → IsForcedByTree rows nodes v → ⊥
@@ -160,22 +141,16 @@ none_forced rows nodes v e forced = let lt : forced.access < length nodes = slic
 
 -- the numbers that pass, one number on
 pub passing_hit : (n : ℕ) (test : ℕ → Bool) → test n ≡ true → passing_below (n + 1) test ≡ passing_below n test ++ n ∷ []
-passing_hit n test h =
-    let e : n + 1 ≡ suc n = omega arith in
-    rw e (ap (λ (b : Bool). passing_below n test ++ alone b n) h)
+passing_hit n test h = grind (arith)
 
 -- a number that fails adds nothing
 pub passing_miss : (n : ℕ) (test : ℕ → Bool) → test n ≡ false → passing_below (n + 1) test ≡ passing_below n test
-passing_miss n test h =
-    let e : n + 1 ≡ suc n = omega arith in
-    rw e (ap (λ (b : Bool). passing_below n test ++ alone b n) h ∙ append-nil (passing_below n test))
+passing_miss n test h = grind (arith, append-nil)
 
 -- what a mark that was read says
 pub mark_says : (rows : Rows) (nodes : List ℕ) (marks : List Bool) (v : ℕ) (b : Bool) → MarksForced rows nodes marks → v < length rows → b ≡ get_or marks v b → is_forced rows nodes v ≡ b
-mark_says rows nodes marks v b right lt read =
-    same_Some (is_forced rows nodes v) b (sym (right.marked v lt) ∙ (slice_get-get_or marks v b (rw right.size lt) ∙ ap (λ (x : Bool). Some x) (sym read)))
+mark_says rows nodes marks v b right lt read = grind (arith, same_Some, slice_get-get_or)
 
 -- the numbers that pass, with one more put at the end
 pub forced_hit : (n x : ℕ) (test : ℕ → Bool) (items new : List ℕ) → items ≡ passing_below n test → new ≡ items ++ x ∷ [] → x ≡ n → test n ≡ true → new ≡ passing_below (n + 1) test
-forced_hit n x test items new so_far push e h =
-    push ∙ (ap (λ (xs : List ℕ). xs ++ x ∷ []) so_far ∙ (ap (λ (y : ℕ). passing_below n test ++ y ∷ []) e ∙ sym (passing_hit n test h)))
+forced_hit n x test items new so_far push e h = grind (arith, passing_hit)

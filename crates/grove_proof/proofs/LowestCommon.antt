@@ -90,25 +90,13 @@ pub record IsLowestIn (rows : Rows) (nodes : List ℕ) (n v : ℕ) : Type 0 wher
 
 -- the first accessed node is the lowest above itself
 pub lowest_start : (rows : Rows) (nodes : List ℕ) (v : ℕ) → AreNodes rows nodes → slice_get nodes 0 ≡ Some v → IsLowestIn rows nodes 1 v
-lowest_start rows nodes v fits h = record {
-  some = omega arith;
-  within = fits 0 v h;
-  is = record {
-    over = λ access target lt names.
-        let e : access ≡ 0 = omega arith in
-        subst (λ (t : ℕ). IsAbove rows v t) (same_Some v target (sym h ∙ (ap (λ (i : ℕ). slice_get nodes i) (sym e) ∙ names))) (above_self rows v);
-    lowest = λ c over. over 0 v (omega arith) h;
-  };
-}
+lowest_start rows nodes v fits h = grind (arith, above_self, same_Some)
 
 -- one access more takes the lowest node above both
 pub lowest_step : (rows : Rows) (nodes : List ℕ) (n v target w : ℕ) → IsTree rows → IsLowestIn rows nodes n v → slice_get nodes n ≡ Some target → IsMeet rows v target w → IsLowestIn rows nodes (n + 1) w
 lowest_step rows nodes n v target w tree so_far names meet = record {
   some = omega arith;
-  within =
-      let le : w ≤ v = above_le rows tree w v meet.first in
-      let within : v < length rows = so_far.within in
-      omega arith;
+  within = omega (arith, above_le rows tree w v meet.first, so_far.within);
   is = record {
     over = λ access other lt there. elim (cases_eq access n) [
       | inl e ↦ subst (λ (t : ℕ). IsAbove rows w t) (same_Some target other (sym names ∙ (ap (λ (i : ℕ). slice_get nodes i) (sym e) ∙ there))) meet.second

@@ -1,5 +1,6 @@
 -- A certificate with one amount changed doesn't balance at the row of the change.
-use Rattle.std.proofs.Common.{◌≡◌, ◌≢◌, ℕ, suc, ◌+◌, ◌≤◌, false, cond, List, [], ◌∷◌, Option, Some, None, refl, sym, ◌∙◌, ap, subst, inl, inr, arith}
+use Rattle.std.proofs.Common.{◌≡◌, ◌≢◌, ℕ, ◌+◌, false, cond, List, [], ◌∷◌, Option, Some, None, refl, sym, ◌∙◌, ap, suc}
+use Rattle.std.proofs.Common.{subst, inl, inr, arith}
 use Rattle.std.specs.List.{slice_get, sum_by}
 use Rattle.std.proofs.lemmas.Option.{none-some, same_Some}
 use Rattle.std.proofs.lemmas.Bool.{cases_eq, cases_Bool, eqb-true}
@@ -36,66 +37,11 @@ record Differ (row other : FlowRow) : Type 0 where
 
 -- of a row whose amount on one constraint is another
 one_differs : (row other : FlowRow) → DifferInOne row other → Differ row other
-one_differs row other (unlike, (n, inl is)) = record {
-  node = sym (ap (λ (r : FlowRow). r.node) is);
-  changed = Above;
-  differ = λ same. unlike (ap (λ (m : ℕ). record row { above = m }) (same ∙ ap (λ (r : FlowRow). r.above) is) ∙ sym is);
-  kept = λ constraint. elim constraint as (λ c. c ≢ Above → amount_on c row ≡ amount_on c other) [
-    | Above ↦ λ no. absurd (no refl)
-    | Held ↦ λ no. sym (ap (amount_on Held) is)
-    | First ↦ λ no. sym (ap (amount_on First) is)
-    | Last ↦ λ no. sym (ap (amount_on Last) is)
-    | Own ↦ λ no. sym (ap (amount_on Own) is)
-  ];
-}
-one_differs row other (unlike, (n, inr (inl is))) = record {
-  node = sym (ap (λ (r : FlowRow). r.node) is);
-  changed = Held;
-  differ = λ same. unlike (ap (λ (m : ℕ). record row { held = m }) (same ∙ ap (λ (r : FlowRow). r.held) is) ∙ sym is);
-  kept = λ constraint. elim constraint as (λ c. c ≢ Held → amount_on c row ≡ amount_on c other) [
-    | Above ↦ λ no. sym (ap (amount_on Above) is)
-    | Held ↦ λ no. absurd (no refl)
-    | First ↦ λ no. sym (ap (amount_on First) is)
-    | Last ↦ λ no. sym (ap (amount_on Last) is)
-    | Own ↦ λ no. sym (ap (amount_on Own) is)
-  ];
-}
-one_differs row other (unlike, (n, inr (inr (inl is)))) = record {
-  node = sym (ap (λ (r : FlowRow). r.node) is);
-  changed = First;
-  differ = λ same. unlike (ap (λ (m : ℕ). record row { first = m }) (same ∙ ap (λ (r : FlowRow). r.first) is) ∙ sym is);
-  kept = λ constraint. elim constraint as (λ c. c ≢ First → amount_on c row ≡ amount_on c other) [
-    | Above ↦ λ no. sym (ap (amount_on Above) is)
-    | Held ↦ λ no. sym (ap (amount_on Held) is)
-    | First ↦ λ no. absurd (no refl)
-    | Last ↦ λ no. sym (ap (amount_on Last) is)
-    | Own ↦ λ no. sym (ap (amount_on Own) is)
-  ];
-}
-one_differs row other (unlike, (n, inr (inr (inr (inl is))))) = record {
-  node = sym (ap (λ (r : FlowRow). r.node) is);
-  changed = Last;
-  differ = λ same. unlike (ap (λ (m : ℕ). record row { last = m }) (same ∙ ap (λ (r : FlowRow). r.last) is) ∙ sym is);
-  kept = λ constraint. elim constraint as (λ c. c ≢ Last → amount_on c row ≡ amount_on c other) [
-    | Above ↦ λ no. sym (ap (amount_on Above) is)
-    | Held ↦ λ no. sym (ap (amount_on Held) is)
-    | First ↦ λ no. sym (ap (amount_on First) is)
-    | Last ↦ λ no. absurd (no refl)
-    | Own ↦ λ no. sym (ap (amount_on Own) is)
-  ];
-}
-one_differs row other (unlike, (n, inr (inr (inr (inr is))))) = record {
-  node = sym (ap (λ (r : FlowRow). r.node) is);
-  changed = Own;
-  differ = λ same. unlike (ap (λ (m : ℕ). record row { own = m }) (same ∙ ap (λ (r : FlowRow). r.own) is) ∙ sym is);
-  kept = λ constraint. elim constraint as (λ c. c ≢ Own → amount_on c row ≡ amount_on c other) [
-    | Above ↦ λ no. sym (ap (amount_on Above) is)
-    | Held ↦ λ no. sym (ap (amount_on Held) is)
-    | First ↦ λ no. sym (ap (amount_on First) is)
-    | Last ↦ λ no. sym (ap (amount_on Last) is)
-    | Own ↦ λ no. absurd (no refl)
-  ];
-}
+one_differs row other (unlike, (n, inl is)) = grind (arith)
+one_differs row other (unlike, (n, inr (inl is))) = grind (arith)
+one_differs row other (unlike, (n, inr (inr (inl is)))) = grind (arith)
+one_differs row other (unlike, (n, inr (inr (inr (inl is))))) = grind (arith)
+one_differs row other (unlike, (n, inr (inr (inr (inr is))))) = grind (arith)
 
 -- a function of an item that may be missing
 abbrev seen : (FlowRow → ℕ) → Option FlowRow → Option ℕ
@@ -108,16 +54,12 @@ sums_alike f [] [] same = refl
 sums_alike f [] (y ∷ ys) same = absurd (none-some (f y) (same 0))
 sums_alike f (x ∷ xs) [] same = absurd (none-some (f x) (sym (same 0)))
 sums_alike f (x ∷ xs) (y ∷ ys) same =
-    let here : f x ≡ f y = same_Some (f x) (f y) (same 0) in
     let rest : sum_by f xs ≡ sum_by f ys = sums_alike f xs ys (λ i. same (suc i)) in
-    omega (arith, sum_by-cons f x xs, sum_by-cons f y ys)
+    omega (arith, sum_by-cons f x xs, sum_by-cons f y ys, same_Some (f x) (f y) (same 0))
 
 -- no node is its own parent
 not_own_parent : (rows : Rows) (v : ℕ) → IsTree rows → is_at v (parent_of rows v) ≡ false
-not_own_parent rows v tree = elim (cases_Bool (is_at v (parent_of rows v))) [
-  | inl own ↦ let less : suc v ≤ v = parent_lt rows tree v v (is_at_true v (parent_of rows v) own) in absurd (omega arith)
-  | inr other ↦ other
-]
+not_own_parent rows v tree = grind (arith, cases_Bool, is_at_true, parent_lt)
 
 module _ (rows : Rows) (flow other : List FlowRow) (tree : IsTree rows) (once : IsChangedOnce flow other) where
   one_node : once.row.node ≡ once.changed.node
@@ -137,29 +79,18 @@ module _ (rows : Rows) (flow other : List FlowRow) (tree : IsTree rows) (once : 
             let same = ap (λ (n : ℕ). Some n) (none once.row refl ∙ sym (none once.changed one_node)) in
             subst P (sym e) (ap (seen term) once.before ∙ (same ∙ sym (ap (seen term) once.after)))
         | inr ne ↦ ap (seen term) (once.kept i ne)
-      ])
-      ∙ ap (λ n. sum_by (λ child. cond (is_at n (parent_of rows child.node)) (amount child) 0) other) one_node
+      ]) ∙ ap (λ n. sum_by (λ child. cond (is_at n (parent_of rows child.node)) (amount child) 0) other) one_node
 
   -- so both can't balance
   unbalanced : (a c h f l o d a2 c2 h2 f2 l2 o2 d2 w w2 : ℕ) (changed : Constraint) → w ≡ w2 → c ≡ c2 → d ≡ d2
       → a + w ≡ c + h + f + o → a2 + w2 ≡ c2 + h2 + f2 + o2 → d + l + o ≡ w → d2 + l2 + o2 ≡ w2
       → (Above ≢ changed → a ≡ a2) → (Held ≢ changed → h ≡ h2) → (First ≢ changed → f ≡ f2) → (Last ≢ changed → l ≡ l2) → (Own ≢ changed → o ≡ o2)
       → (a ≡ a2) × (h ≡ h2) × (f ≡ f2) × (l ≡ l2) × (o ≡ o2)
-  unbalanced a c h f l o d a2 c2 h2 f2 l2 o2 d2 w w2 Above e1 e2 e3 b1 b2 b3 b4 k1 k2 k3 k4 k5 =
-      let p : h ≡ h2 = k2 (λ e. absurd (cc)) in let q : f ≡ f2 = k3 (λ e. absurd (cc)) in let r : l ≡ l2 = k4 (λ e. absurd (cc)) in let s : o ≡ o2 = k5 (λ e. absurd (cc)) in
-      (omega arith, p, q, r, s)
-  unbalanced a c h f l o d a2 c2 h2 f2 l2 o2 d2 w w2 Held e1 e2 e3 b1 b2 b3 b4 k1 k2 k3 k4 k5 =
-      let p : a ≡ a2 = k1 (λ e. absurd (cc)) in let q : f ≡ f2 = k3 (λ e. absurd (cc)) in let r : l ≡ l2 = k4 (λ e. absurd (cc)) in let s : o ≡ o2 = k5 (λ e. absurd (cc)) in
-      (p, omega arith, q, r, s)
-  unbalanced a c h f l o d a2 c2 h2 f2 l2 o2 d2 w w2 First e1 e2 e3 b1 b2 b3 b4 k1 k2 k3 k4 k5 =
-      let p : a ≡ a2 = k1 (λ e. absurd (cc)) in let q : h ≡ h2 = k2 (λ e. absurd (cc)) in let r : l ≡ l2 = k4 (λ e. absurd (cc)) in let s : o ≡ o2 = k5 (λ e. absurd (cc)) in
-      (p, q, omega arith, r, s)
-  unbalanced a c h f l o d a2 c2 h2 f2 l2 o2 d2 w w2 Last e1 e2 e3 b1 b2 b3 b4 k1 k2 k3 k4 k5 =
-      let p : a ≡ a2 = k1 (λ e. absurd (cc)) in let q : h ≡ h2 = k2 (λ e. absurd (cc)) in let r : f ≡ f2 = k3 (λ e. absurd (cc)) in let s : o ≡ o2 = k5 (λ e. absurd (cc)) in
-      (p, q, r, omega arith, s)
-  unbalanced a c h f l o d a2 c2 h2 f2 l2 o2 d2 w w2 Own e1 e2 e3 b1 b2 b3 b4 k1 k2 k3 k4 k5 =
-      let p : a ≡ a2 = k1 (λ e. absurd (cc)) in let q : h ≡ h2 = k2 (λ e. absurd (cc)) in let r : f ≡ f2 = k3 (λ e. absurd (cc)) in let s : l ≡ l2 = k4 (λ e. absurd (cc)) in
-      (p, q, r, s, omega arith)
+  unbalanced a c h f l o d a2 c2 h2 f2 l2 o2 d2 w w2 Above e1 e2 e3 b1 b2 b3 b4 k1 k2 k3 k4 k5 = grind (arith)
+  unbalanced a c h f l o d a2 c2 h2 f2 l2 o2 d2 w w2 Held e1 e2 e3 b1 b2 b3 b4 k1 k2 k3 k4 k5 = grind (arith)
+  unbalanced a c h f l o d a2 c2 h2 f2 l2 o2 d2 w w2 First e1 e2 e3 b1 b2 b3 b4 k1 k2 k3 k4 k5 = grind (arith)
+  unbalanced a c h f l o d a2 c2 h2 f2 l2 o2 d2 w w2 Last e1 e2 e3 b1 b2 b3 b4 k1 k2 k3 k4 k5 = grind (arith)
+  unbalanced a c h f l o d a2 c2 h2 f2 l2 o2 d2 w w2 Own e1 e2 e3 b1 b2 b3 b4 k1 k2 k3 k4 k5 = grind (arith)
 
 -- the changed amount is the same, against what is said of it
 no_change : (row other : FlowRow) (constraint : Constraint) → (row.above ≡ other.above) × (row.held ≡ other.held) × (row.first ≡ other.first) × (row.last ≡ other.last) × (row.own ≡ other.own)
@@ -180,8 +111,7 @@ one_change_is_refused rows nodes lengths flow other cost claim tree certificate 
     (unbalanced rows flow other tree once
     once.row.above (child_sum rows (λ child. child.above) flow once.row) once.row.held once.row.first once.row.last once.row.own (child_sum rows (λ child. child.held) flow once.row)
     once.changed.above (child_sum rows (λ child. child.above) other once.changed) once.changed.held once.changed.first once.changed.last once.changed.own (child_sum rows (λ child. child.held) other once.changed)
-    (weight_of rows once.row.node) (weight_of rows once.changed.node) differ.changed
-    (ap (weight_of rows) differ.node)
+    (weight_of rows once.row.node) (weight_of rows once.changed.node) differ.changed (ap (weight_of rows) differ.node)
     (children_kept rows flow other tree once (λ child. child.above)) (children_kept rows flow other tree once (λ child. child.held))
     (eqb-true _ _ (certificate.balances.locks once.place once.row once.before)) (eqb-true _ _ (changed.balances.locks once.place once.changed once.after))
     (eqb-true _ _ (certificate.balances.releases once.place once.row once.before)) (eqb-true _ _ (changed.balances.releases once.place once.changed once.after))

@@ -1,5 +1,5 @@
 -- A plan with a flow has one first fault alone, and none where the flow certifies it.
-use Rattle.std.proofs.Common.{◌≡◌, ◌≢◌, ℕ, Bool, List, Some, refl, sym, ◌∙◌, ap, subst, inl, inr}
+use Rattle.std.proofs.Common.{◌≡◌, ◌≢◌, ℕ, Bool, List, Some, refl, sym, ◌∙◌, ap, subst, arith}
 use Rattle.std.specs.Prelude.{map}
 use Rattle.std.proofs.lemmas.Option.{none-some, same_Some}
 use Rattle.std.proofs.lemmas.Bool.{cases_order, both_ways}
@@ -24,13 +24,7 @@ plan_refutes rows nodes plan f is legal = none-some f (sym (legal_faultless rows
 
 -- two lists differ first at one place
 difference_is_one : (xs ys : List ℕ) (i j : ℕ) → IsFirstDifference xs ys i → IsFirstDifference xs ys j → i ≡ j
-difference_is_one xs ys i j one other = elim (cases_order i j) [
-  | inl e ↦ e
-  | inr differ ↦ elim differ [
-    | inl before ↦ absurd (one.differ (other.before i before))
-    | inr after ↦ absurd (other.differ (one.before j after))
-  ]
-]
+difference_is_one xs ys i j one other = grind (arith, cases_order)
 
 stranger_is_one : (rows : Rows) (nodes : List ℕ) (flow : List FlowRow) (i j : ℕ) → IsFirstStranger rows nodes flow i → IsFirstStranger rows nodes flow j → i ≡ j
 stranger_is_one rows nodes flow i j one other =
@@ -39,13 +33,7 @@ stranger_is_one rows nodes flow i j one other =
 
 -- one row is the first that fails a test
 bad_is_one : (test : FlowRow → Bool) (flow : List FlowRow) (i j : ℕ) → IsFirstBad test flow i → IsFirstBad test flow j → i ≡ j
-bad_is_one test flow i j one other = elim (cases_order i j) [
-  | inl e ↦ e
-  | inr differ ↦ elim differ [
-    | inl before ↦ absurd (both_ways (test one.row) one.fails (other.before i one.row before one.there))
-    | inr after ↦ absurd (both_ways (test other.row) other.fails (one.before j other.row after other.there))
-  ]
-]
+bad_is_one test flow i j one other = grind (arith, both_ways, cases_order)
 
 -- Of two faults the later one says that what the earlier one blames has passed.
 pub fault_is_one : FaultIsOne
@@ -109,9 +97,7 @@ fault_is_one rows nodes lengths plan flow fault.Memory other ne_one ne_other is 
 
 refuted : (rows : Rows) (nodes lengths : List ℕ) (plan : List Step) (flow : List FlowRow) (e : ProofFault) → e ≢ fault.Memory → IsLegal rows nodes plan → IsCertificate rows nodes lengths flow (cost rows lengths plan)
     → IsFault rows nodes lengths plan flow e → ⊥
-refuted rows nodes lengths plan flow e ne legal certificate is =
-    fault_refutes rows nodes lengths plan flow e
-    (λ f same also. plan_refutes rows nodes plan f (subst (λ (x : ProofFault). IsFault rows nodes lengths plan flow x) same is) also) ne is legal certificate
+refuted rows nodes lengths plan flow e ne legal certificate is = grind (arith, fault_refutes, plan_refutes)
 
 -- a fault of a legal plan with a certificate is out of memory
 pub certified_is_faultless : CertifiedIsFaultless

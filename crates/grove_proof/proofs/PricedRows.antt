@@ -36,8 +36,7 @@ priced_locks rows flow value balanced =
     let h : FlowRow → ℕ = λ row. row.held * value row.node in
     let f : FlowRow → ℕ = λ row. row.first * value row.node in
     let o : FlowRow → ℕ = λ row. row.own * value row.node in
-    sym (sums_add a w flow)
-    ∙ (sums_same (λ row. a row + w row) (λ row. ((c row + h row) + f row) + o row) flow
+    sym (sums_add a w flow) ∙ (sums_same (λ row. a row + w row) (λ row. ((c row + h row) + f row) + o row) flow
     (λ i row is. weigh_lock row.above (weight_of rows row.node) (child_sum rows (λ child. child.above) flow row) row.held row.first row.own (value row.node)
     (eqb-true (row.above + weight_of rows row.node) (child_sum rows (λ child. child.above) flow row + row.held + row.first + row.own) (balanced i row is)))
     ∙ (sums_add (λ row. (c row + h row) + f row) o flow

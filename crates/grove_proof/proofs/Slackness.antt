@@ -58,17 +58,7 @@ record AreMet (s : PricedSums) : Type 0 where
 
 -- so the bound is the cost
 bound_same : (s : PricedSums) → DoBalance s → AreMet s → s.last_ends ≡ s.cost + s.firsts
-bound_same s balance met =
-    let at_locks : s.above + s.locks ≡ ((s.child_above + s.held) + s.first) + s.own = balance.at_locks in
-    let at_releases : (s.child_held + s.last) + s.own_release ≡ s.releases = balance.at_releases in
-    let holdings : s.releases ≡ s.locks + s.hold = balance.holdings in
-    let above : s.child_above ≡ s.above = met.above in
-    let held : s.held ≡ s.child_held = met.held in
-    let first : s.first ≡ s.firsts = met.first in
-    let last : s.last_ends ≡ s.last = met.last in
-    let own : s.own ≡ s.own_release = met.own in
-    let hold : s.hold ≡ s.cost = met.hold in
-    omega arith
+bound_same s balance met = grind (arith)
 
 -- the priced sums of rows at whose times a plan is tight, where it locks forced nodes alone
 sums_met : (rows : Rows) (nodes lengths : List ℕ) (flow : List FlowRow) (plan : List Step) → IsTree rows → AreNodes rows nodes → Balances rows nodes flow
@@ -79,23 +69,17 @@ sums_met rows nodes lengths flow plan tree fits balances alone tight =
       above = child_swap rows flow (λ child. child.above) (lock_time lengths plan)
           ∙ sums_same (λ child. child.above * parent_value rows flow (lock_time lengths plan) child) (λ row. row.above * lock_time lengths plan row.node) flow
           (λ i row is. elim (parent_row rows flow row) [
-            | inl over ↦ ap (λ (n : ℕ). row.above * n) (at_parent rows nodes flow (lock_time lengths plan) are row over.1 over.0 over.2 over.3)
-                ∙ tight_term row.above (lock_time lengths plan over.1.node) (lock_time lengths plan row.node) (tight.above i row over.1.node is (is_at_true over.1.node (parent_of rows row.node) over.3))
+            | inl over ↦ grind (arith, at_parent, is_at_true, tight_term)
             | inr none ↦ free_same row.above (parent_value rows flow (lock_time lengths plan) row) (lock_time lengths plan row.node) ((has_signs rows nodes flow row (balances.signs i row is)).top none).0
           ]);
       held = sums_same (λ row. row.held * lock_time lengths plan row.node) (λ child. child.held * parent_value rows flow (release_time lengths plan) child) flow
           (λ i row is. elim (parent_row rows flow row) [
-            | inl over ↦ tight_term row.held (lock_time lengths plan row.node) (release_time lengths plan over.1.node) (tight.held i row over.1.node is (is_at_true over.1.node (parent_of rows row.node) over.3))
-                ∙ ap (λ (n : ℕ). row.held * n) (sym (at_parent rows nodes flow (release_time lengths plan) are row over.1 over.0 over.2 over.3))
+            | inl over ↦ grind (arith, at_parent, is_at_true, tight_term)
             | inr none ↦ free_same row.held (lock_time lengths plan row.node) (parent_value rows flow (release_time lengths plan) row) ((has_signs rows nodes flow row (balances.signs i row is)).top none).1
-          ])
-          ∙ sym (child_swap rows flow (λ child. child.held) (release_time lengths plan));
-      first = sums_same (λ row. row.first * lock_time lengths plan row.node) (λ row. row.first * slots_before lengths (first_access nodes row.node)) flow
-          (λ i row is. tight_term row.first (lock_time lengths plan row.node) (slots_before lengths (first_access nodes row.node)) (tight.first i row is));
-      last = sums_same (λ row. row.last * slots_before lengths (last_end nodes row.node)) (λ row. row.last * release_time lengths plan row.node) flow
-          (λ i row is. tight_term row.last (slots_before lengths (last_end nodes row.node)) (release_time lengths plan row.node) (tight.last i row is));
-      own = sums_same (λ row. row.own * lock_time lengths plan row.node) (λ row. row.own * release_time lengths plan row.node) flow
-          (λ i row is. tight_term row.own (lock_time lengths plan row.node) (release_time lengths plan row.node) (tight.own i row is));
+          ]) ∙ sym (child_swap rows flow (λ child. child.held) (release_time lengths plan));
+      first = grind (arith, sums_same, tight_term);
+      last = grind (arith, sums_same, tight_term);
+      own = grind (arith, sums_same, tight_term);
       hold = forced_cost rows nodes lengths flow plan ((forced_list_is_by_tree rows nodes (map node_of flow) tree fits).0 balances.forced)
           ∙ sum_same (length rows) (λ v. cond (is_forced rows nodes v) (weight_of rows v * holding lengths plan v) 0) (λ v. weight_of rows v * holding lengths plan v)
           (λ v lt. part_all (is_forced rows nodes v) (weight_of rows v) (holding lengths plan v) (unforced_free rows nodes lengths plan v tree alone));

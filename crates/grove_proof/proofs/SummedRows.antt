@@ -1,11 +1,13 @@
 -- The sums of the bound, and what the tables say of one row.
-use Rattle.std.proofs.Common.{◌≡◌, ℕ, suc, ◌+◌, ◌*◌, ◌^◌, ◌<◌, ◌≤◌, Bool, true, false, not, ◌&&◌, ◌||◌, eqb, ltb, List, length, take, get_or, Some, sym, ◌∙◌, ap, subst, inl, inr, arith, zero-mul, mul-le-mul_left, le_trans, lit≤}
+use Rattle.std.proofs.Common.{◌≡◌, ℕ, ◌+◌, ◌*◌, ◌^◌, ◌<◌, ◌≤◌, Bool, true, false, not, ◌&&◌, ◌||◌, eqb, ltb, List}
+use Rattle.std.proofs.Common.{length, take, get_or, Some, sym, ◌∙◌, ap, subst, inl, inr, arith, zero-mul}
+use Rattle.std.proofs.Common.{mul-le-mul_left}
 use Rattle.std.specs.Prelude.{map}
 use Rattle.std.specs.List.{slice_get, sum_by}
 use Rattle.std.proofs.lemmas.Option.{same_Some, slice_get_within, slice_get-get_or, get_or_from_slice_get}
 use Rattle.std.proofs.lemmas.Bool.{cases_lt, cases_eq, cases_Bool, both_ways, false_from_ne_true, lt-ltb, le-ltb, eq-eqb, ne_eqb, not_from_true, not_from_false}
 use Rattle.std.proofs.lemmas.List.Sums.{sum_by_more}
-use Rattle.grove_base.specs.Numbers.{any_below, last_below}
+use Rattle.grove_base.specs.Numbers.{any_below}
 use Rattle.grove_tree.specs.Trees.{Rows, parent_of, weight_of, IsTree}
 use Rattle.grove_base.proofs.Counting.{any_from, passing_got, passing_rises, last_is, any_false}
 use Rattle.grove_base.proofs.Lists.{get_map, get_map_inv, read_at}
@@ -13,7 +15,8 @@ use Rattle.grove_tree.proofs.Above.{above_le, parent_lt}
 use Rattle.grove_tree.proofs.Tests.{is_at_true, is_at_from}
 use Rattle.grove_access.specs.Lists.{AreNodes}
 use Rattle.grove_access.specs.Slots.{slots_before}
-use Rattle.grove_access.specs.Forced.{IsCommon, IsForcedByTree, is_forced, forced_nodes, names_at, is_accessed, first_access, last_end}
+use Rattle.grove_access.specs.Forced.{IsCommon, IsForcedByTree, is_forced, forced_nodes, names_at, first_access}
+use Rattle.grove_access.specs.Forced.{last_end}
 use Rattle.grove_access.proofs.ForcedByTree.{forced_step, forced_listed, listed_forced}
 use Rattle.grove_proof.specs.declared.flow.FlowRow.{FlowRow}
 use Rattle.grove_proof.specs.declared.tables.Visits.{Visits}
@@ -49,10 +52,7 @@ total_step term flow n total row so_far there small =
 
 -- a product of an amount and a number of slots
 pub small_term : (a b : ℕ) → a < 2 ^ 64 → b ≤ 64000 → a * b ≤ 2 ^ 80
-small_term a b h k =
-    let le : a * b ≤ a * 64000 = mul-le-mul_left a k in
-    let less : a * 64000 ≤ 2 ^ 64 * 64000 = omega arith in
-    le_trans le (le_trans less (lit≤ tt))
+small_term a b h k = grind (arith, mul-le-mul_left)
 
 -- Nodes of the rows
 
@@ -68,13 +68,8 @@ rows_in_tree rows nodes flow listed i row there = (passing_got (length rows) (is
 -- a node of the rows stands at the row's place alone, after the smaller ones
 node_after : (rows : Rows) (nodes : List ℕ) (flow : List FlowRow) (i j v : ℕ) (row : FlowRow) → map node_of flow ≡ forced_nodes rows nodes → slice_get flow i ≡ Some row
     → slice_get (forced_nodes rows nodes) j ≡ Some v → v < row.node → j < i
-node_after rows nodes flow i j v row listed there at less = elim (cases_lt j i) [
-  | inl lt ↦ lt
-  | inr ge ↦ elim (cases_eq i j) [
-    | inl e ↦ let same : row.node ≡ v = same_Some row.node v (sym (row_node rows nodes flow i row listed there) ∙ (ap (λ (k : ℕ). slice_get (forced_nodes rows nodes) k) e ∙ at)) in absurd (omega arith)
-    | inr ne ↦ let more : row.node < v = passing_rises (length rows) (is_forced rows nodes) i j row.node v (omega arith) (row_node rows nodes flow i row listed there) at in absurd (omega arith)
-  ]
-]
+node_after rows nodes flow i j v row listed there at less =
+    grind (arith, cases_eq, cases_lt, passing_rises, row_node, same_Some)
 
 -- a common node among the rows is the first
 top_is_first : (rows : Rows) (nodes : List ℕ) (flow : List FlowRow) (i : ℕ) (row : FlowRow) → IsTree rows → AreNodes rows nodes → map node_of flow ≡ forced_nodes rows nodes
@@ -116,8 +111,7 @@ first_is_top rows nodes flow i row tree fits listed there =
                 (ap (is_parent_at rows row) from.1 ∙ is_at_from from.0.node (parent_of rows row.node) (under.1 ∙ ap (λ (k : ℕ). Some k) (sym from.2)))
                 ∙ sym (lt-ltb 0 i later)
           ]
-      | inr first ↦ false_from_ne_true (has_parent rows flow row) (λ is. no_parent_first rows nodes flow i row tree fits listed there (omega arith) is)
-          ∙ sym (le-ltb 0 i first)
+      | inr first ↦ grind (arith, false_from_ne_true, le-ltb, no_parent_first)
     ]
 
 -- What the visits say
@@ -125,34 +119,21 @@ first_is_top rows nodes flow i row tree fits listed there =
 -- the end of the last visit is small
 pub end_few : (nodes : List ℕ) (n v : ℕ) (visits : Visits) → AreVisits nodes n v visits → visits.end ≤ n
 end_few nodes n v visits are = elim (cases_Bool (any_below n (names_at nodes v))) [
-  | inl some ↦
-      let found : (k : ℕ) × (last_below n (names_at nodes v) ≡ suc k) × (k < n) × (names_at nodes v k ≡ true) × ((j : ℕ) → k < j → j < n → names_at nodes v j ≡ false) = last_is n (names_at nodes v) some in
-      let last : last_below n (names_at nodes v) ≡ suc found.0 = found.1 in
-      let lt : found.0 < n = found.2 in
-      let end : visits.end ≡ last_below n (names_at nodes v) = are.end in
-      omega arith
+  | inl some ↦ grind (arith, last_is)
   | inr none ↦ let end : visits.end ≡ 0 = are.end ∙ last_none n (names_at nodes v) (any_false n (names_at nodes v) none) in omega arith
 ]
 
 -- a first access is priced as its visits say, where the signs are right
 pub first_priced : (rows : Rows) (nodes lengths : List ℕ) (flow : List FlowRow) (row : FlowRow) (visits : Visits) → is_sign_ok rows nodes flow row ≡ true → AreVisits nodes (length nodes) row.node visits
     → row.first * slots_before lengths visits.first ≡ loss_of nodes lengths row
-first_priced rows nodes lengths flow row visits sign are = elim (cases_Bool (is_accessed nodes row.node)) [
-  | inl some ↦ ap (λ (k : ℕ). row.first * slots_before lengths k) (are.first some)
-  | inr none ↦ let e : row.first ≡ 0 = ((has_signs rows nodes flow row sign).unaccessed none).0 in
-      ap (λ (k : ℕ). k * slots_before lengths visits.first) e
-      ∙ (zero-mul (slots_before lengths visits.first) ∙ sym (ap (λ (k : ℕ). k * slots_before lengths (first_access nodes row.node)) e ∙ zero-mul (slots_before lengths (first_access nodes row.node))))
-]
+first_priced rows nodes lengths flow row visits sign are = grind (arith, cases_Bool, has_signs, zero-mul)
 
 -- the sums' steps
 pub gain_step : (nodes lengths : List ℕ) (flow : List FlowRow) (n total slots : ℕ) (row : FlowRow) (visits : Visits) → IsTotal (gain_of nodes lengths) flow n total → slice_get flow n ≡ Some row
     → AreVisits nodes (length nodes) row.node visits → slots ≡ slots_before lengths visits.end → slots ≤ 64000 → row.last < 2 ^ 64
     → IsTotal (gain_of nodes lengths) flow (n + 1) (total + row.last * slots)
 gain_step nodes lengths flow n total slots row visits so_far there are is few small =
-    let same : row.last * slots ≡ gain_of nodes lengths row = ap (λ (k : ℕ). row.last * k) (is ∙ ap (slots_before lengths) are.end) in
-    subst (λ (k : ℕ). IsTotal (gain_of nodes lengths) flow (n + 1) (total + k)) (sym same)
-    (total_step (gain_of nodes lengths) flow n total row so_far there
-    (subst (λ (k : ℕ). k ≤ 2 ^ 80) same (small_term row.last slots small few)))
+    grind (arith, small_term, total_step)
 
 -- and of the other half
 pub loss_step : (rows : Rows) (nodes lengths : List ℕ) (flow : List FlowRow) (n total slots : ℕ) (row : FlowRow) (visits : Visits) → IsTotal (loss_of nodes lengths) flow n total → slice_get flow n ≡ Some row
@@ -176,15 +157,7 @@ pub record IsInTables (rows : Rows) (visits : List Visits) (above held : List �
 -- the node of a row stands in the tables
 pub node_in : (rows : Rows) (nodes : List ℕ) (flow : List FlowRow) (visits : List Visits) (above held : List ℕ) (i : ℕ) (row : FlowRow)
     → AreSums rows nodes flow visits above held → slice_get flow i ≡ Some row → IsInTables rows visits above held row.node
-node_in rows nodes flow visits above held i row right there =
-    let within : row.node < length rows = rows_in_tree rows nodes flow right.listed i row there in
-    let found : (w : Visits) × (slice_get visits row.node ≡ Some w) × AreVisits nodes (length nodes) row.node w = right.visits_right row.node within in
-    record {
-      in_tree = within;
-      in_visits = slice_get_within visits row.node found.0 found.1;
-      in_above = slice_get_within above row.node (sum_at rows Above row.node flow) (right.above_right row.node within);
-      in_held = slice_get_within held row.node (sum_at rows Held row.node flow) (right.held_right row.node within);
-    }
+node_in rows nodes flow visits above held i row right there = grind (arith, rows_in_tree, slice_get_within)
 
 -- so does the node of the row that is read at a place
 pub row_in : (rows : Rows) (nodes : List ℕ) (flow : List FlowRow) (visits : List Visits) (above held : List ℕ) (place : ℕ) (d : FlowRow)
@@ -210,10 +183,7 @@ pub lock_made : (rows : Rows) (flow : List FlowRow) (table : List ℕ) (made row
     → eqb (made.above + weight) (children + made.held + made.first + made.own) ≡ is_lock_balanced rows flow row
 lock_made rows flow table made row number children weight right e within at read weighs =
     let sum : sum_at rows Above row.node flow ≡ children = read_same table number row.node children (sum_at rows Above row.node flow) (right row.node within) read (at ∙ ap node_of e) in
-    let weight_is : weight ≡ weight_of rows row.node = weighs ∙ ap (λ (r : FlowRow). weight_of rows r.node) e in
-    ap (λ (r : FlowRow). eqb (r.above + weight) (children + r.held + r.first + r.own)) e
-    ∙ (ap (λ (k : ℕ). eqb (row.above + k) (children + row.held + row.first + row.own)) weight_is
-    ∙ ap (λ (k : ℕ). eqb (row.above + weight_of rows row.node) (k + row.held + row.first + row.own)) (sym sum))
+    grind (arith)
 
 -- and so is the release balance
 pub release_made : (rows : Rows) (flow : List FlowRow) (table : List ℕ) (made row : FlowRow) (number children weight : ℕ) → SumsByNode rows Held flow table → made ≡ row → row.node < length rows
@@ -221,28 +191,18 @@ pub release_made : (rows : Rows) (flow : List FlowRow) (table : List ℕ) (made 
     → eqb (children + made.last + made.own) weight ≡ is_release_balanced rows flow row
 release_made rows flow table made row number children weight right e within at read weighs =
     let sum : sum_at rows Held row.node flow ≡ children = read_same table number row.node children (sum_at rows Held row.node flow) (right row.node within) read (at ∙ ap node_of e) in
-    let weight_is : weight ≡ weight_of rows row.node = weighs ∙ ap (λ (r : FlowRow). weight_of rows r.node) e in
-    ap (λ (r : FlowRow). eqb (children + r.last + r.own) weight) e
-    ∙ (ap (λ (k : ℕ). eqb (children + row.last + row.own) k) weight_is
-    ∙ ap (λ (k : ℕ). eqb (k + row.last + row.own) (weight_of rows row.node)) (sym sum))
+    grind (arith)
 
 -- whether a place isn't the first
 not_first : (i : ℕ) → not (eqb i 0) ≡ ltb 0 i
-not_first i = elim (cases_eq i 0) [
-  | inl e ↦ not_from_true (eqb i 0) (eq-eqb i 0 e) ∙ sym (le-ltb 0 i (omega arith))
-  | inr ne ↦ not_from_false (eqb i 0) (ne_eqb i 0 ne) ∙ sym (lt-ltb 0 i (omega arith))
-]
+not_first i = grind (arith, cases_eq, eq-eqb, le-ltb, lt-ltb, ne_eqb, not_from_false, not_from_true)
 
 -- and the test of the signs
 pub sign_made : (rows : Rows) (nodes : List ℕ) (flow : List FlowRow) (made row : FlowRow) (i : ℕ) (visits : Visits) → IsTree rows → AreNodes rows nodes → map node_of flow ≡ forced_nodes rows nodes
     → slice_get flow i ≡ Some row → made ≡ row → AreVisits nodes (length nodes) row.node visits
     → ((not (eqb i 0) || (eqb made.above 0 && eqb made.held 0)) && (ltb 0 visits.end || (eqb made.first 0 && eqb made.last 0))) ≡ is_sign_ok rows nodes flow row
 sign_made rows nodes flow made row i visits tree fits listed there e are =
-    let top : has_parent rows flow row ≡ ltb 0 i = first_is_top rows nodes flow i row tree fits listed there in
-    let seen : is_accessed nodes row.node ≡ ltb 0 visits.end = visited nodes (length nodes) row.node visits are in
-    ap (λ (r : FlowRow). (not (eqb i 0) || (eqb r.above 0 && eqb r.held 0)) && (ltb 0 visits.end || (eqb r.first 0 && eqb r.last 0))) e
-    ∙ (ap (λ (b : Bool). (b || (eqb row.above 0 && eqb row.held 0)) && (ltb 0 visits.end || (eqb row.first 0 && eqb row.last 0))) (not_first i ∙ sym top)
-    ∙ ap (λ (b : Bool). (has_parent rows flow row || (eqb row.above 0 && eqb row.held 0)) && (b || (eqb row.first 0 && eqb row.last 0))) (sym seen))
+    grind (arith, first_is_top, not_first, visited)
 
 -- a row that fails a test, after rows that pass it
 pub bad_here : (test : FlowRow → Bool) (flow : List FlowRow) (i : ℕ) (row : FlowRow) → slice_get flow i ≡ Some row → test row ≡ false

@@ -41,11 +41,7 @@ visits_start rows nodes = record {
 
 -- a node without visits isn't accessed, and one with visits is
 end_zero : (nodes : List ℕ) (n v : ℕ) (visits : Visits) → AreVisits nodes n v visits → visits.end ≡ 0 → any_below n (names_at nodes v) ≡ false
-end_zero nodes n v visits are e = false_from_ne_true (any_below n (names_at nodes v)) (λ some.
-    let found : (k : ℕ) × (last_below n (names_at nodes v) ≡ suc k) × (k < n) × (names_at nodes v k ≡ true) × ((j : ℕ) → k < j → j < n → names_at nodes v j ≡ false) = last_is n (names_at nodes v) some in
-    let last : last_below n (names_at nodes v) ≡ suc found.0 = found.1 in
-    let end : visits.end ≡ last_below n (names_at nodes v) = are.end in
-    omega arith)
+end_zero nodes n v visits are e = grind (arith, false_from_ne_true, last_is)
 
 end_some : (nodes : List ℕ) (n v : ℕ) (visits : Visits) → AreVisits nodes n v visits → (visits.end ≡ 0 → ⊥) → any_below n (names_at nodes v) ≡ true
 end_some nodes n v visits are ne = elim (cases_Bool (any_below n (names_at nodes v))) [
@@ -68,10 +64,7 @@ visits_first nodes n v old new are fresh again = elim (cases_eq old.end 0) [
 ]
 
 visits_few : (nodes : List ℕ) (n v : ℕ) (old new : Visits) → AreVisits nodes n v old → (old.end ≡ 0 → new.first ≡ n) → ((old.end ≡ 0 → ⊥) → new.first ≡ old.first) → new.first ≤ suc n
-visits_few nodes n v old new are fresh again = elim (cases_eq old.end 0) [
-  | inl e ↦ let first : new.first ≡ n = fresh e in omega arith
-  | inr ne ↦ let first : new.first ≡ old.first = again ne in let few : old.first ≤ n = are.few in omega arith
-]
+visits_few nodes n v old new are fresh again = grind (arith, cases_eq)
 
 -- the visits of a node after one more access, of it or of another
 pub visits_hit : (nodes : List ℕ) (n v : ℕ) (old new : Visits) → AreVisits nodes n v old → slice_get nodes n ≡ Some v
@@ -88,17 +81,7 @@ visits_hit nodes n v old new are names fresh again end =
 -- an access of another node leaves them
 pub visits_miss : (nodes : List ℕ) (n v w : ℕ) (old : Visits) → AreVisits nodes n v old → slice_get nodes n ≡ Some w → (v ≡ w → ⊥) → AreVisits nodes (n + 1) v old
 visits_miss nodes n v w old are names ne =
-    let e : n + 1 ≡ suc n = omega arith in
-    let not_here : names_at nodes v n ≡ false = false_from_ne_true (names_at nodes v n) (λ is. ne (sym (same_Some w v (sym names ∙ is_at_true v (slice_get nodes n) is)))) in
-    let few : old.first ≤ n = are.few in
-    rw e (record {
-      first = λ some. elim (or_cases (names_at nodes v n) (any_below n (names_at nodes v)) some) [
-        | inl is ↦ absurd (both_ways (names_at nodes v n) not_here is)
-        | inr before ↦ are.first before ∙ sym (cond-true (any_below n (names_at nodes v)) (least_below n (names_at nodes v)) n before)
-      ];
-      end = are.end ∙ sym (cond-false (names_at nodes v n) (suc n) (last_below n (names_at nodes v)) not_here);
-      few = omega arith;
-    })
+    grind (arith, both_ways, cond-false, cond-true, false_from_ne_true, is_at_true, or_cases, same_Some)
 
 -- one access more is noted at its node
 pub visits_step : (rows : Rows) (nodes : List ℕ) (n w : ℕ) (table : List Visits) (new : Visits) → AreNodes rows nodes → AreVisitsSoFar rows nodes n table → slice_get nodes n ≡ Some w
@@ -148,35 +131,18 @@ pub sums_step : (rows : Rows) (amount : Amount) (flow : List FlowRow) (n p old :
 sums_step rows amount flow n p old table row so_far there e within here small = record {
   size = length-set table p (old + amount_of amount row) ∙ so_far.size;
   sums = λ v lt. elim (cases_eq v p) [
-    | inl same ↦
-        let is : is_at v (parent_of rows row.node) ≡ true = is_at_from v (parent_of rows row.node) (e ∙ ap (λ (i : ℕ). Some i) (sym same)) in
-        let before : old ≡ sum_at rows amount v (take n flow) = same_Some old (sum_at rows amount v (take n flow)) (sym here ∙ (ap (λ (i : ℕ). slice_get table i) (sym same) ∙ so_far.sums v lt)) in
-        ap (λ (i : ℕ). slice_get (set table p (old + amount_of amount row)) i) same ∙ (get_set_same table p (old + amount_of amount row) (rw so_far.size within)
-        ∙ ap (λ (i : ℕ). Some i) (ap (λ (i : ℕ). i + amount_of amount row) before ∙ sym (sum_child rows amount flow n v row there is)))
+    | inl same ↦ grind (arith, get_set_same, is_at_from, same_Some, sum_child)
     | inr ne ↦
         let is_not : is_at v (parent_of rows row.node) ≡ false = false_from_ne_true (is_at v (parent_of rows row.node)) (λ is. ne (same_Some v p (sym (is_at_true v (parent_of rows row.node) is) ∙ e))) in
         get_set_other table p v (old + amount_of amount row) ne ∙ (so_far.sums v lt ∙ ap (λ (i : ℕ). Some i) (sym (sum_other rows amount flow n v row there is_not)))
   ];
-  bounded = λ v sum is. elim (cases_eq v p) [
-    | inl same ↦
-        let at : slice_get (set table p (old + amount_of amount row)) p ≡ Some sum = ap (λ (i : ℕ). slice_get (set table p (old + amount_of amount row)) i) (sym same) ∙ is in
-        let e : old + amount_of amount row ≡ sum = same_Some (old + amount_of amount row) sum (sym (get_set_same table p (old + amount_of amount row) (rw so_far.size within)) ∙ at) in
-        let le : old ≤ n * 2 ^ 64 = so_far.bounded p old here in
-        omega arith
-    | inr ne ↦
-        let le : sum ≤ n * 2 ^ 64 = so_far.bounded v sum (sym (get_set_other table p v (old + amount_of amount row) ne) ∙ is) in
-        omega arith
-  ];
+  bounded = grind (arith, cases_eq, get_set_other, get_set_same, same_Some);
 }
 
 -- and a row without a parent nowhere
 pub sums_skip : (rows : Rows) (amount : Amount) (flow : List FlowRow) (n : ℕ) (table : List ℕ) (row : FlowRow) → AreSumsSoFar rows amount flow n table
     → slice_get flow n ≡ Some row → parent_of rows row.node ≡ None → AreSumsSoFar rows amount flow (n + 1) table
-sums_skip rows amount flow n table row so_far there e = record {
-  size = so_far.size;
-  sums = λ v lt. so_far.sums v lt ∙ ap (λ (i : ℕ). Some i) (sym (sum_other rows amount flow n v row there (ap (is_at v) e)));
-  bounded = λ v sum is. let le : sum ≤ n * 2 ^ 64 = so_far.bounded v sum is in omega arith;
-}
+sums_skip rows amount flow n table row so_far there e = grind (arith, sum_other)
 
 -- two ways to read one item
 pub read_same : {X : Type 0} (xs : List X) (i j : ℕ) (x y : X) → slice_get xs j ≡ Some y → x ≡ get_or xs i x → i ≡ j → y ≡ x

@@ -74,11 +74,7 @@ rows_no_plan rows nodes lengths flow sum e f is h = subst (λ (x : ProofFault). 
 -- rows that pass all tests and give the cost
 rows_certify : (rows : Rows) (nodes lengths : List ℕ) (plan : List Step) (flow : List FlowRow) → IsForcedList rows nodes (map node_of flow) → PassAll rows nodes flow → bound nodes lengths flow ≡ pos (cost rows lengths plan)
     → IsCertificate rows nodes lengths flow (cost rows lengths plan)
-rows_certify rows nodes lengths plan flow forced pass value = record {
-  balances = record { forced = forced; signs = pass.signs; locks = pass.locks; releases = pass.releases };
-  small = pass.sizes;
-  value = difference (gains nodes lengths flow) (losses nodes lengths flow) (cost rows lengths plan) value;
-}
+rows_certify rows nodes lengths plan flow forced pass value = grind (arith, difference)
 
 -- what the rows say of a legal plan whose forced nodes they have
 abbrev pub RowsSay : Rows → List ℕ → List ℕ → List FlowRow → ℕ → Result ℕ ProofFault → Type 0
@@ -87,9 +83,8 @@ RowsSay rows nodes lengths flow sum r = MatchResult r (λ s. (s ≡ sum) × Pass
 verdict_at_cost : (rows : Rows) (nodes lengths : List ℕ) (plan : List Step) (flow : List FlowRow) (r : Result ℕ ProofFault) → IsLegal rows nodes plan → IsForcedList rows nodes (map node_of flow)
     → RowsSay rows nodes lengths flow (cost rows lengths plan) r → IsVerdict rows nodes lengths plan flow r
 verdict_at_cost rows nodes lengths plan flow (Ok s) legal forced say = (say.0, legal, rows_certify rows nodes lengths plan flow forced say.1 say.2)
-verdict_at_cost rows nodes lengths plan flow (Err e) legal forced say = λ ne.
-    let is : IsFault rows nodes lengths plan flow e = rows_are_fault rows nodes lengths plan flow e legal forced say in
-    (is, fault_refutes rows nodes lengths plan flow e (λ f same also. rows_no_plan rows nodes lengths flow (cost rows lengths plan) e f same say) ne is)
+verdict_at_cost rows nodes lengths plan flow (Err e) legal forced say =
+    grind (arith, fault_refutes, rows_are_fault, rows_no_plan)
 
 -- the rows' answer on a legal plan is the checker's verdict
 pub verdict : (rows : Rows) (nodes lengths : List ℕ) (plan : List Step) (flow : List FlowRow) (span : List ℕ) (sum : ℕ) (r : Result ℕ ProofFault) → IsTree rows → AreNodes rows nodes → IsLegal rows nodes plan
@@ -134,7 +129,4 @@ verdict_refused rows nodes lengths plan flow (Err e) is = λ ne. (is ne).1
 -- what rows say, of the same tree, list and rows
 pub say_same : (rows tree : Rows) (accesses list : List Access) (flow other : List FlowRow) (sum : ℕ) (r : Result ℕ ProofFault) → RowsSay rows (nodes_of accesses) (lengths_of accesses) flow sum r
     → rows ≡ tree → accesses ≡ list → flow ≡ other → RowsSay tree (nodes_of list) (lengths_of list) other sum r
-say_same rows tree accesses list flow other sum r say e f g =
-    subst (λ (x : List FlowRow). RowsSay tree (nodes_of list) (lengths_of list) x sum r) g
-    (subst (λ (x : List Access). RowsSay tree (nodes_of x) (lengths_of x) flow sum r) f
-    (subst (λ (x : Rows). RowsSay x (nodes_of accesses) (lengths_of accesses) flow sum r) e say))
+say_same rows tree accesses list flow other sum r say e f g = grind (arith)

@@ -1,10 +1,11 @@
 -- Weak duality: the bound of rows that balance is at most the cost of every legal plan.
-use Rattle.std.proofs.Common.{◌≡◌, ℕ, suc, ◌+◌, ◌*◌, ◌≤◌, Bool, true, false, cond, List, length, Some, sym, ◌∙◌, ap, inl, inr, arith, mul-add, mul-le-mul_left}
+use Rattle.std.proofs.Common.{◌≡◌, ℕ, ◌+◌, ◌*◌, ◌≤◌, Bool, true, false, cond, List, length, Some, sym, ◌∙◌, ap, inl}
+use Rattle.std.proofs.Common.{inr, arith, mul-add, mul-le-mul_left}
 use Rattle.std.specs.Prelude.{map}
 use Rattle.std.specs.List.{slice_get, sum_by}
 use Rattle.std.proofs.lemmas.Bool.{cases_Bool}
 use Rattle.grove_base.specs.Numbers.{sum_below}
-use Rattle.grove_tree.specs.Trees.{Rows, parent_of, weight_of, IsTree}
+use Rattle.grove_tree.specs.Trees.{Rows, weight_of, IsTree}
 use Rattle.grove_base.proofs.Counting.{sum_le}
 use Rattle.grove_tree.proofs.Tests.{is_at_true}
 use Rattle.grove_access.specs.Lists.{AreNodes}
@@ -28,18 +29,14 @@ module _ (rows : Rows) (nodes lengths : List ℕ) (flow : List FlowRow) (plan : 
     (signs : AllRows (is_sign_ok rows nodes flow) flow) (five : MeetsFive rows nodes lengths plan) where
   pub above_term : (i : ℕ) (row : FlowRow) → slice_get flow i ≡ Some row → row.above * parent_value rows flow (lock_time lengths plan) row ≤ row.above * lock_time lengths plan row.node
   above_term i row is = elim (parent_row rows flow row) [
-    | inl over ↦ mul-le-mul_left row.above
-        (rw (at_parent rows nodes flow (lock_time lengths plan) are row over.1 over.0 over.2 over.3)
-        (five.above row.node over.1.node (are.forced i row is) (are.forced over.0 over.1 over.2) (is_at_true over.1.node (parent_of rows row.node) over.3)))
+    | inl over ↦ grind (arith, at_parent, is_at_true, mul-le-mul_left)
     | inr none ↦ free row.above (parent_value rows flow (lock_time lengths plan) row) (lock_time lengths plan row.node) ((has_signs rows nodes flow row (signs i row is)).top none).0
   ]
 
   -- a child's lock comes no later than its parent's release
   pub held_term : (i : ℕ) (row : FlowRow) → slice_get flow i ≡ Some row → row.held * lock_time lengths plan row.node ≤ row.held * parent_value rows flow (release_time lengths plan) row
   held_term i row is = elim (parent_row rows flow row) [
-    | inl over ↦ mul-le-mul_left row.held
-        (rw (at_parent rows nodes flow (release_time lengths plan) are row over.1 over.0 over.2 over.3)
-        (five.held row.node over.1.node (are.forced i row is) (are.forced over.0 over.1 over.2) (is_at_true over.1.node (parent_of rows row.node) over.3)))
+    | inl over ↦ grind (arith, at_parent, is_at_true, mul-le-mul_left)
     | inr none ↦ free row.held (lock_time lengths plan row.node) (parent_value rows flow (release_time lengths plan) row) ((has_signs rows nodes flow row (signs i row is)).top none).1
   ]
 
@@ -53,9 +50,7 @@ module _ (rows : Rows) (nodes lengths : List ℕ) (flow : List FlowRow) (plan : 
   -- a release comes no earlier than the end of the last one
   pub last_term : (i : ℕ) (row : FlowRow) → slice_get flow i ≡ Some row → row.last * slots_before lengths (last_end nodes row.node) ≤ row.last * release_time lengths plan row.node
   last_term i row is = elim (cases_Bool (is_accessed nodes row.node)) [
-    | inl some ↦ mul-le-mul_left row.last
-        (let end : (g : ℕ) × (last_end nodes row.node ≡ suc g) × (slice_get nodes g ≡ Some row.node) = last_is_end nodes row.node some in
-        rw end.1 (five.last row.node end.0 end.2))
+    | inl some ↦ grind (arith, last_is_end, mul-le-mul_left)
     | inr none ↦ free row.last (slots_before lengths (last_end nodes row.node)) (release_time lengths plan row.node) ((has_signs rows nodes flow row (signs i row is)).unaccessed none).1
   ]
 
@@ -169,17 +164,7 @@ sums_bounded rows nodes lengths flow plan tree fits balances legal =
 -- so the bound is at most the cost; where it isn't less, no bounded sum leaves any slack
 pub bound_and_slack : (s : PricedSums) → DoBalance s → AreBounded s → (s.last_ends ≤ s.cost + s.firsts)
     × (s.cost + s.firsts ≤ s.last_ends → (s.above ≤ s.child_above) × (s.child_held ≤ s.held) × (s.firsts ≤ s.first) × (s.last ≤ s.last_ends) × (s.own_release ≤ s.own))
-bound_and_slack s balance bounded =
-    let at_locks : s.above + s.locks ≡ ((s.child_above + s.held) + s.first) + s.own = balance.at_locks in
-    let at_releases : (s.child_held + s.last) + s.own_release ≡ s.releases = balance.at_releases in
-    let holdings : s.releases ≡ s.locks + s.hold = balance.holdings in
-    let above : s.child_above ≤ s.above = bounded.above in
-    let held : s.held ≤ s.child_held = bounded.held in
-    let first : s.first ≤ s.firsts = bounded.first in
-    let last : s.last_ends ≤ s.last = bounded.last in
-    let own : s.own ≤ s.own_release = bounded.own in
-    let hold : s.hold ≤ s.cost = bounded.hold in
-    (omega arith, λ cheap. (omega arith, omega arith, omega arith, omega arith, omega arith))
+bound_and_slack s balance bounded = grind (arith)
 
 -- the bound of rows that balance is at most the cost of every legal plan
 pub weak_duality : WeakDuality
@@ -188,10 +173,4 @@ weak_duality rows nodes lengths flow plan tree fits balances legal = (bound_and_
 
 -- accepted means least
 pub certified_is_least : CertifiedIsLeast
-certified_is_least rows nodes lengths flow plan tree fits legal certificate = record {
-  legal = legal;
-  least = λ other also.
-      let bound : gains nodes lengths flow ≤ cost rows lengths other + losses nodes lengths flow = weak_duality rows nodes lengths flow other tree fits certificate.balances also in
-      let value : gains nodes lengths flow ≡ cost rows lengths plan + losses nodes lengths flow = certificate.value in
-      omega arith;
-}
+certified_is_least rows nodes lengths flow plan tree fits legal certificate = grind (arith, weak_duality)

@@ -1,5 +1,6 @@
 -- No other node is forced: the plan that locks just the nodes that the tree forces, does all accesses and unlocks them all is legal.
-use Rattle.std.proofs.Common.{◌≡◌, ℕ, ◌+◌, ◌<◌, ◌≤◌, true, ◌⊎◌, List, [], ◌∷◌, ◌++◌, length, Some, refl, sym, ◌∙◌, ap, subst, inl, inr, arith, append-nil}
+use Rattle.std.proofs.Common.{◌≡◌, ℕ, ◌+◌, ◌<◌, ◌≤◌, true, ◌⊎◌, List, [], ◌∷◌, ◌++◌, length, Some, refl, ◌∙◌, ap, inl}
+use Rattle.std.proofs.Common.{inr, arith, append-nil}
 use Rattle.std.specs.Prelude.{map}
 use Rattle.std.specs.List.{slice_get}
 use Rattle.std.proofs.lemmas.Option.{same_Some, slice_get_within}
@@ -26,83 +27,31 @@ wide_cases : (span : List ℕ) (m i : ℕ) (step : Step) → slice_get (wide_pla
     → ((v : ℕ) × (slice_get span i ≡ Some v) × (Lock v ≡ step))
     ⊎ (((a : ℕ) × (a < m) × (i ≡ length span + a) × (Access a ≡ step))
     ⊎ ((j : ℕ) × (v : ℕ) × (slice_get span j ≡ Some v) × (i ≡ length span + (m + j)) × (Unlock v ≡ step)))
-wide_cases span m i step h =
-    let size : length (map (λ (v : ℕ). Lock v) span) ≡ length span = map_length (λ (v : ℕ). Lock v) span in
-    let middle : length (map (λ (a : ℕ). Access a) (numbers_below m)) ≡ m = map_length (λ (a : ℕ). Access a) (numbers_below m) ∙ numbers_length m in
-    elim (get_append_cases (map (λ (v : ℕ). Lock v) span) (map (λ (a : ℕ). Access a) (numbers_below m) ++ map (λ (v : ℕ). Unlock v) span) i step h) [
-      | inl first ↦ inl (get_map_inv (λ (v : ℕ). Lock v) span i step first)
-      | inr later ↦ let at : i ≡ length (map (λ (v : ℕ). Lock v) span) + later.0 = later.1 in
-          elim (get_append_cases (map (λ (a : ℕ). Access a) (numbers_below m)) (map (λ (v : ℕ). Unlock v) span) later.0 step later.2) [
-            | inl done ↦
-                let from : (a : ℕ) × (slice_get (numbers_below m) later.0 ≡ Some a) × (Access a ≡ step) = get_map_inv (λ (a : ℕ). Access a) (numbers_below m) later.0 step done in
-                let got : (from.0 ≡ later.0) × (later.0 < m) = numbers_got m later.0 from.0 from.1 in
-                let e : from.0 ≡ later.0 = got.0 in
-                let lt : later.0 < m = got.1 in
-                inr (inl (from.0, omega arith, omega arith, from.2))
-            | inr last ↦
-                let from : (v : ℕ) × (slice_get span last.0 ≡ Some v) × (Unlock v ≡ step) = get_map_inv (λ (v : ℕ). Unlock v) span last.0 step last.2 in
-                let e : later.0 ≡ length (map (λ (a : ℕ). Access a) (numbers_below m)) + last.0 = last.1 in
-                inr (inr (last.0, from.0, from.1, omega arith, from.2))
-          ]
-    ]
+wide_cases span m i step h = grind (arith, get_append_cases, get_map_inv, map_length, numbers_got, numbers_length)
 
 -- what stands where
 lock_position : (span : List ℕ) (m i v : ℕ) → slice_get (wide_plan span m) i ≡ Some (Lock v) → slice_get span i ≡ Some v
-lock_position span m i v h = elim (wide_cases span m i (Lock v) h) [
-  | inl it ↦ it.1 ∙ ap (λ (n : ℕ). Some n) (lock_same it.0 v it.2)
-  | inr others ↦ elim others [
-    | inl it ↦ let e : Access it.0 ≡ Lock v = it.3 in absurd (cc)
-    | inr it ↦ let e : Unlock it.1 ≡ Lock v = it.4 in absurd (cc)
-  ]
-]
+lock_position span m i v h = grind (arith, lock_same, wide_cases)
 
 access_place : (span : List ℕ) (m i a : ℕ) → slice_get (wide_plan span m) i ≡ Some (Access a) → (a < m) × (i ≡ length span + a)
-access_place span m i a h = elim (wide_cases span m i (Access a) h) [
-  | inl it ↦ let e : Lock it.0 ≡ Access a = it.2 in absurd (cc)
-  | inr others ↦ elim others [
-    | inl it ↦ let e : it.0 ≡ a = access_same it.0 a it.3 in let lt : it.0 < m = it.1 in let at : i ≡ length span + it.0 = it.2 in (omega arith, omega arith)
-    | inr it ↦ let e : Unlock it.1 ≡ Access a = it.4 in absurd (cc)
-  ]
-]
+access_place span m i a h = grind (arith, access_same, wide_cases)
 
 unlock_place : (span : List ℕ) (m i v : ℕ) → slice_get (wide_plan span m) i ≡ Some (Unlock v) → (j : ℕ) × (slice_get span j ≡ Some v) × (i ≡ length span + (m + j))
-unlock_place span m i v h = elim (wide_cases span m i (Unlock v) h) [
-  | inl it ↦ let e : Lock it.0 ≡ Unlock v = it.2 in absurd (cc)
-  | inr others ↦ elim others [
-    | inl it ↦ let e : Access it.0 ≡ Unlock v = it.3 in absurd (cc)
-    | inr it ↦ (it.0, it.2 ∙ ap (λ (n : ℕ). Some n) (unlock_same it.1 v it.4), it.3)
-  ]
-]
+unlock_place span m i v h = grind (arith, unlock_same, wide_cases)
 
 lock_there : (span : List ℕ) (m i v : ℕ) → slice_get span i ≡ Some v → slice_get (wide_plan span m) i ≡ Some (Lock v)
-lock_there span m i v h =
-    let there : slice_get (map (λ (w : ℕ). Lock w) span) i ≡ Some (Lock v) = get_map (λ (w : ℕ). Lock w) span i v h in
-    get_append_left (map (λ (w : ℕ). Lock w) span) (map (λ (a : ℕ). Access a) (numbers_below m) ++ map (λ (w : ℕ). Unlock w) span) i
-    (slice_get_within (map (λ (w : ℕ). Lock w) span) i (Lock v) there) ∙ there
+lock_there span m i v h = grind (arith, get_append_left, get_map, slice_get_within)
 
 unlock_there : (span : List ℕ) (m j v : ℕ) → slice_get span j ≡ Some v → slice_get (wide_plan span m) (length span + (m + j)) ≡ Some (Unlock v)
 unlock_there span m j v h =
     let size : length (map (λ (w : ℕ). Lock w) span) ≡ length span = map_length (λ (w : ℕ). Lock w) span in
     let middle : length (map (λ (a : ℕ). Access a) (numbers_below m)) ≡ m = map_length (λ (a : ℕ). Access a) (numbers_below m) ∙ numbers_length m in
-    let second : slice_get (map (λ (a : ℕ). Access a) (numbers_below m) ++ map (λ (w : ℕ). Unlock w) span) (m + j) ≡ Some (Unlock v) =
-    subst (λ (n : ℕ). slice_get (map (λ (a : ℕ). Access a) (numbers_below m) ++ map (λ (w : ℕ). Unlock w) span) (n + j) ≡ Some (Unlock v)) middle
-    (get_append_at (map (λ (a : ℕ). Access a) (numbers_below m)) (map (λ (w : ℕ). Unlock w) span) j ∙ get_map (λ (w : ℕ). Unlock w) span j v h) in
-    subst (λ (n : ℕ). slice_get (wide_plan span m) (n + (m + j)) ≡ Some (Unlock v)) size
-    (get_append_at (map (λ (w : ℕ). Lock w) span) (map (λ (a : ℕ). Access a) (numbers_below m) ++ map (λ (w : ℕ). Unlock w) span) (m + j) ∙ second)
+    grind (arith, get_append_at, get_map)
 
 -- a node listed once is held from its lock to its unlock
 wide_held : (span : List ℕ) (m i v place : ℕ) → ((j k w : ℕ) → slice_get span j ≡ Some w → slice_get span k ≡ Some w → j ≡ k)
     → slice_get span i ≡ Some v → i < place → place ≤ length span + (m + i) → held (wide_plan span m) v place ≡ true
-wide_held span m i v place once h above below = held_from (wide_plan span m) v place (record {
-  at = i;
-  before = above;
-  is_lock = lock_there span m i v h;
-  kept = λ j after before is.
-      let it : (k : ℕ) × (slice_get span k ≡ Some v) × (j ≡ length span + (m + k)) = unlock_place span m j v is in
-      let e : it.0 ≡ i = once it.0 i v it.1 h in
-      let at : j ≡ length span + (m + it.0) = it.2 in
-      omega arith;
-})
+wide_held span m i v place once h above below = grind (arith, held_from, lock_there, unlock_place)
 
 accesses_locks : (span : List ℕ) → accesses_of (map (λ (v : ℕ). Lock v) span) ≡ []
 accesses_locks [] = refl
@@ -142,22 +91,10 @@ wide_obeys rows nodes tree fits =
             | inr under ↦
                 let less : under.0 < v = parent_lt rows tree v under.0 under.1 in
                 let at : (k : ℕ) × (slice_get span k ≡ Some under.0) = forced_listed rows nodes under.0 tree fits under.2 in
-                let within : i < length span = slice_get_within span i v here in
-                let before : at.0 < i = elim (cases_order at.0 i) [
-                  | inl e ↦ let same : under.0 ≡ v = same_Some under.0 v (sym at.1 ∙ (ap (λ (n : ℕ). slice_get span n) e ∙ here)) in absurd (omega arith)
-                  | inr ne ↦ elim ne [
-                    | inl lt ↦ lt
-                    | inr gt ↦ let more : v < under.0 = passing_rises (length rows) (is_forced rows nodes) i at.0 v under.0 gt here at.1 in absurd (omega arith)
-                  ]
-                ] in
-                (under.0, under.1, wide_held span m at.0 under.0 i (passing_once (length rows) (is_forced rows nodes)) at.1 before (omega arith))
+                grind (arith, cases_order, passing_once, passing_rises, same_Some, slice_get_within, wide_held)
           ];
       once = λ i j v h k. passing_once (length rows) (is_forced rows nodes) i j v (lock_position span m i v h) (lock_position span m j v k);
-      unlocks_held = λ i v h.
-          let it : (j : ℕ) × (slice_get span j ≡ Some v) × (i ≡ length span + (m + j)) = unlock_place span m i v h in
-          let within : it.0 < length span = slice_get_within span it.0 v it.1 in
-          let at : i ≡ length span + (m + it.0) = it.2 in
-          wide_held span m it.0 v i (passing_once (length rows) (is_forced rows nodes)) it.1 (omega arith) (omega arith);
+      unlocks_held = grind (arith, passing_once, slice_get_within, unlock_place, wide_held);
       ends_free = λ v. held_not (wide_plan span m) v (length (wide_plan span m)) (λ at.
           let here : slice_get span at.at ≡ Some v = lock_position span m at.at v at.is_lock in
           let within : at.at < length span = slice_get_within span at.at v here in
@@ -176,8 +113,7 @@ wide_performs rows nodes tree fits =
           let lt : access < m = place.0 in
           let e : i ≡ length span + access = place.1 in
           let at : (k : ℕ) × (slice_get span k ≡ Some v) = forced_listed rows nodes v tree fits (accessed_is_forced rows nodes access v names) in
-          let within : at.0 < length span = slice_get_within span at.0 v at.1 in
-          wide_held span m at.0 v i (passing_once (length rows) (is_forced rows nodes)) at.1 (omega arith) (omega arith);
+          grind (arith, passing_once, slice_get_within, wide_held);
     }
 
 -- so the wide plan of the forced nodes is legal

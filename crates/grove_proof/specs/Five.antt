@@ -17,11 +17,9 @@ release_time lengths plan node = slots_before lengths (first_release_slot plan n
 -- The five constraints on the forced nodes, and what they say of the holding: it lasts from the lock to the release.
 pub record MeetsFive (rows : Rows) (nodes lengths : List ℕ) (plan : List Step) : Type 0 where
   pub above : (node parent : ℕ) → IsForcedByTree rows nodes node → IsForcedByTree rows nodes parent
-      → parent_of rows node ≡ Some parent
-      → lock_time lengths plan parent ≤ lock_time lengths plan node
+      → parent_of rows node ≡ Some parent → lock_time lengths plan parent ≤ lock_time lengths plan node
   pub held : (node parent : ℕ) → IsForcedByTree rows nodes node → IsForcedByTree rows nodes parent
-      → parent_of rows node ≡ Some parent
-      → lock_time lengths plan node ≤ release_time lengths plan parent
+      → parent_of rows node ≡ Some parent → lock_time lengths plan node ≤ release_time lengths plan parent
   pub first : (node access : ℕ) → slice_get nodes access ≡ Some node → lock_time lengths plan node
       ≤ slots_before lengths access
   pub last : (node access : ℕ) → slice_get nodes access ≡ Some node → slots_before lengths (suc access)

@@ -5,9 +5,7 @@ use Rattle.grove_proof.proofs.LowestCommon.{less_true, less_false, differs, agre
 use Rattle.grove_proof.proofs.span.meet.Goals as goal
 
 pub loop-right-smaller-in-Some : goal.loop-right-smaller-in-Some
-loop-right-smaller-in-Some c =
-    let less : c.in-Some.parent < c.loop-right.right = parent_lt c.args.tree.now c.requires.tree c.loop-right.right c.in-Some.parent (sym c.parent.ensures ∙ c.in-Some.is) in
-    omega arith
+loop-right-smaller-in-Some c = grind (arith, parent_lt)
 
 pub loop-right-preserved-in-Some : goal.loop-right-preserved-in-Some
 loop-right-preserved-in-Some c =
@@ -20,9 +18,7 @@ unreachable-requires c =
     has_a_parent c.args.tree.now c.loop-right.right c.requires.tree c.loop-right.invariant.right_within (omega arith) (sym c.parent.ensures ∙ c.in-None.is)
 
 pub loop-right-smaller : goal.loop-right-smaller
-loop-right-smaller c =
-    let less : c.in-Some-parent.parent < c.loop-right.left = parent_lt c.args.tree.now c.requires.tree c.loop-right.left c.in-Some-parent.parent (sym c.parent-else-lt.ensures ∙ c.in-Some-parent.is) in
-    omega arith
+loop-right-smaller c = grind (arith, parent_lt)
 
 pub loop-right-preserved : goal.loop-right-preserved
 loop-right-preserved c =

@@ -1,12 +1,11 @@
 -- Each goal is a step of the lemmas on the visits so far.
-use Rattle.std.proofs.Common.{◌≡◌, ℕ, ◌+◌, ◌<◌, length, ◌∙◌, ap, subst, arith, refl}
+use Rattle.std.proofs.Common.{◌≡◌, ℕ, ◌+◌, length, ◌∙◌, ap, subst, arith, refl}
 use Rattle.std.proofs.Math.ListN.{replicate}
 use Rattle.grove_access.specs.Lists.{nodes_of}
 use Rattle.grove_access.proofs.Lists.{node_at}
 use Rattle.grove_proof.specs.Tables.{VisitsByNode}
 use Rattle.grove_proof.proofs.TablesByNode.{read_same, first_kept, first_made, visits_start, visits_step}
 use Rattle.grove_proof.proofs.tables.visits_by_node.Goals as goal
-use Rattle.grove_proof.proofs.tables.visits_by_node.Goals.{then-visits-eq0, else-visits-eq0}
 
 pub loop-access-init : goal.loop-access-init
 loop-access-init c =
@@ -15,10 +14,7 @@ loop-access-init c =
     rw all (visits_start c.args.tree.now (nodes_of c.args.list.now))
 
 pub index_mut-visits-requires : goal.index_mut-visits-requires
-index_mut-visits-requires c =
-    let within : c.get.result.node < length c.args.tree.now = c.requires.fits c.loop-access.access c.get.result.node (node_at c.args.list.now c.loop-access.access c.get.result c.get.ensures) in
-    let size : length c.loop-access.table.items ≡ length c.args.tree.now = c.loop-access.invariant.size in
-    omega arith
+index_mut-visits-requires c = grind (arith, node_at)
 
 pub loop-access-preserved : goal.loop-access-preserved
 loop-access-preserved c = rw c.number.ensures.is_it
@@ -26,12 +22,7 @@ loop-access-preserved c = rw c.number.ensures.is_it
     (record { first = c.if-visits-eq0.visits.first; end = c.loop-access.access + 1 }) c.requires.fits c.loop-access.invariant
     (node_at c.args.list.now c.loop-access.access c.get.result c.get.ensures)
     (λ old there.
-    let same : old ≡ c.index_mut-visits.result.now =
-    read_same c.loop-access.table.items c.number.result c.get.result.node c.index_mut-visits.result.now old there c.index_mut-visits.ensures.value c.number.ensures.is_it in
-    elim c.if-visits-eq0.branch [
-      | then-visits-eq0 w ↦ first_made c.loop-access.access c.index_mut-visits.result.now.end old c.index_mut-visits.result.now c.if-visits-eq0.visits same w.if-visits-eq0.true w.visits-is
-      | else-visits-eq0 w ↦ first_kept c.loop-access.access old c.index_mut-visits.result.now c.if-visits-eq0.visits same w.if-visits-eq0.false w.visits-is
-    ])
+    grind (arith, first_kept, first_made, read_same))
     refl)
 
 pub returns-clause-visits : goal.returns-clause-visits

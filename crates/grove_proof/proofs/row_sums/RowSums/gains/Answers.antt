@@ -1,20 +1,15 @@
 -- What the tables say of the row at hand.
-use Rattle.std.proofs.Common.{◌≡◌, ◌<◌, ◌≤◌, length, Some, arith}
+use Rattle.std.proofs.Common.{◌≡◌, ◌≤◌, length, Some, arith}
 use Rattle.std.specs.List.{slice_get}
 use Rattle.grove_access.specs.Lists.{nodes_of, lengths_of}
 use Rattle.grove_access.proofs.Lists.{nodes_length}
 use Rattle.grove_proof.specs.Tables.{AreVisits}
 use Rattle.grove_base.proofs.Lists.{read_at}
-use Rattle.grove_proof.proofs.SummedRows.{IsInTables, node_in, visits_read, end_few, gain_step, rows_in_tree}
+use Rattle.grove_proof.proofs.SummedRows.{node_in, visits_read, end_few, gain_step, rows_in_tree}
 use Rattle.grove_proof.proofs.row_sums.RowSums.gains.Goals as goal
 
 pub index-requires : goal.index-requires
-index-requires c =
-    let there : slice_get c.args.self.now.rows.now c.loop-row.row-index ≡ Some c.row-item.result = read_at c.args.self.now.rows.now c.loop-row.row-index c.row-item.result (omega arith) c.row-item.is in
-    let is : IsInTables c.args.self.now.tree.now c.args.self.now.visits.items c.args.self.now.above.items c.args.self.now.held.items c.row-item.result.node =
-    node_in c.args.self.now.tree.now (nodes_of c.args.self.now.list.now) c.args.self.now.rows.now c.args.self.now.visits.items c.args.self.now.above.items c.args.self.now.held.items c.loop-row.row-index c.row-item.result c.requires there in
-    let inside : c.row-item.result.node < length c.args.self.now.visits.items = is.in_visits in
-    omega arith
+index-requires c = grind (arith, node_in, read_at)
 
 pub slots_before-requires : goal.slots_before-requires
 slots_before-requires c =

@@ -1,18 +1,13 @@
 -- What the tables say of the row at the place.
-use Rattle.std.proofs.Common.{◌≡◌, ◌<◌, length, get_or, ◌∙◌, ap, arith}
+use Rattle.std.proofs.Common.{◌≡◌, get_or, ◌∙◌, ap, arith}
 use Rattle.std.proofs.lemmas.Option.{slice_get-get_or, get_or_from_slice_get}
 use Rattle.grove_access.specs.Lists.{nodes_of}
 use Rattle.grove_proof.specs.declared.flow.FlowRow.{FlowRow}
-use Rattle.grove_proof.proofs.SummedRows.{IsInTables, node_in, visits_read, sign_made, rows_in_tree}
+use Rattle.grove_proof.proofs.SummedRows.{node_in, visits_read, sign_made, rows_in_tree}
 use Rattle.grove_proof.proofs.row_sums.RowSums.is_sign_ok.Goals as goal
 
 pub index-visits-requires : goal.index-visits-requires
-index-visits-requires c =
-    let made : FlowRow = get_or c.args.self.now.rows.now c.args.place c.index-self-place.result in
-    let is : IsInTables c.args.self.now.tree.now c.args.self.now.visits.items c.args.self.now.above.items c.args.self.now.held.items made.node =
-    node_in c.args.self.now.tree.now (nodes_of c.args.self.now.list.now) c.args.self.now.rows.now c.args.self.now.visits.items c.args.self.now.above.items c.args.self.now.held.items c.args.place made c.requires.right (slice_get-get_or c.args.self.now.rows.now c.args.place c.index-self-place.result c.requires.place) in
-    let inside : made.node < length c.args.self.now.visits.items = is.in_visits in
-    omega arith
+index-visits-requires c = grind (arith, node_in, slice_get-get_or)
 
 pub returns : goal.returns
 returns c = λ row there.
