@@ -1,5 +1,6 @@
 -- Counting accesses on the way to the first step that passes a test.
-use Rattle.std.proofs.Common.{◌≡◌, ℕ, suc, ◌+◌, ◌<◌, Bool, true, false, cond, ◌⊎◌, List, length, get_or, Option, Some, None, sym, ◌∙◌, ap, inl, inr, add-one}
+use Rattle.std.proofs.Common.{◌≡◌, ℕ, ◌+◌, ◌<◌, Bool, true, false, cond, ◌⊎◌, List, length, get_or, Option, Some, None}
+use Rattle.std.proofs.Common.{sym, ◌∙◌, ap, add-one, arith}
 use Rattle.std.specs.List.{slice_get}
 use Rattle.grove_base.specs.Numbers.{any_below, least_below}
 use Rattle.grove_base.proofs.Counting.{count_hit, count_miss, any_miss}
@@ -19,17 +20,7 @@ pub count_on : (test : Option Step → Bool) (plan : List Step) (position count 
     → ((is_access (Some step) ≡ true) × (after ≡ count + 1)) ⊎ ((is_access (Some step) ≡ false) × (after ≡ count))
     → IsCounted test plan (position + 1) after
 count_on test plan position count after step lt read fails counted more =
-    let at : slice_get plan position ≡ Some step = read_at plan position step lt read in
-    let was : count ≡ accesses_before plan position = counted.0 in
-    rw add-one (
-      elim more [
-        | inl hit ↦ let here : is_access (slice_get plan position) ≡ true = ap is_access at ∙ hit.0 in
-            hit.1 ∙ add-one count ∙ ap suc was ∙ sym (count_hit position (λ k. is_access (slice_get plan k)) here)
-        | inr miss ↦ let here : is_access (slice_get plan position) ≡ false = ap is_access at ∙ miss.0 in
-            miss.1 ∙ was ∙ sym (count_miss position (λ k. is_access (slice_get plan k)) here)
-      ],
-      any_miss position (λ k. test (slice_get plan k)) (ap test at ∙ fails) ∙ counted.1,
-    )
+    grind (arith, add-one, any_miss, count_hit, count_miss, read_at)
 
 -- a step that passes ends it
 pub count_found : (test : Option Step → Bool) (plan : List Step) (position count : ℕ) (step : Step) → position < length plan → step ≡ get_or plan position step

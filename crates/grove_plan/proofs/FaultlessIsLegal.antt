@@ -1,5 +1,6 @@
 -- A plan has no fault exactly where it is legal.
-use Rattle.std.proofs.Common.{◌≡◌, ℕ, ◌<◌, ◌≤◌, Bool, true, false, not, ◌&&◌, ltb, cond, List, length, get_or, Option, Some, None, Result, Ok, Err, OnOk, IfErr, ◌≢◌, refl, sym, ◌∙◌, ap, subst, inl, inr, arith}
+use Rattle.std.proofs.Common.{◌≡◌, ℕ, ◌<◌, ◌≤◌, Bool, true, false, not, ◌&&◌, cond, List, length, get_or, Option, Some}
+use Rattle.std.proofs.Common.{None, Result, Ok, Err, OnOk, IfErr, ◌≢◌, refl, sym, ◌∙◌, ap, inl, inr, arith, rules}
 use Rattle.std.specs.List.{slice_get}
 use Rattle.std.proofs.lemmas.Option.{none-some, same_Some, slice_get_within, slice_get-get_or, slice_get_past}
 use Rattle.std.proofs.lemmas.Bool.{cases_lt, cases_eq, cases_Bool, both_ways, and_cases, and_left, and_right, lt-ltb, le-ltb, ltb-false, cond-true, cond-false, not-false, false_from_ne_true}
@@ -17,7 +18,7 @@ use Rattle.grove_plan.specs.declared.tally.Tally.{Tally}
 use Rattle.grove_plan.specs.Plans.{locks, is_lock, held, accesses_of, IsLater, ObeysTreeProtocol, Performs, IsLegal}
 use Rattle.grove_plan.specs.Slots.{accesses_before}
 use Rattle.grove_plan.specs.Faults.{is_held, is_later, step_fault, steps_fault, end_fault, plan_fault_of}
-use Rattle.grove_plan.specs.Tallies.{IsTally, first_holding, holds_node, held_weight}
+use Rattle.grove_plan.specs.Tallies.{IsTally, first_holding, held_weight}
 use Rattle.grove_plan.proofs.Held.{HeldAt, held_at, held_not, locks_true, locks_from, is_lock_true, access_at, find_access, accesses_length}
 use Rattle.grove_plan.proofs.StepFaults.{step_is, lock_kept, lock_fine, unlock_kept, unlock_fine, access_kept, access_fine, each_kept, none_found, both_none}
 use Rattle.grove_plan.proofs.StepEffects.{node_tells}
@@ -28,8 +29,7 @@ use Rattle.grove_plan.proofs.LeastFound.{any_same, least_agrees}
 -- a step that is there keeps the rules
 kept_at : (rows : Rows) (nodes : List ℕ) (plan : List Step) (i : ℕ) (step : Step) → steps_fault rows nodes plan (length plan) ≡ None → slice_get plan i ≡ Some step
     → step_fault rows nodes plan i (Some step) ≡ None
-kept_at rows nodes plan i step none at =
-    sym (step_is rows nodes plan i step at) ∙ each_kept rows nodes plan (length plan) i (slice_get_within plan i step at) none
+kept_at rows nodes plan i step none at = grind (arith, each_kept, slice_get_within, step_is)
 
 held_some : (plan : List Step) (position : ℕ) (o : Option ℕ) → is_held plan position o ≡ true → (v : ℕ) × (o ≡ Some v) × (held plan v position ≡ true)
 held_some plan position None h = absurd (cc)
@@ -59,29 +59,19 @@ end_rules true b x y h = absurd (cc)
 
 end_kept : (rows : Rows) (nodes : List ℕ) (plan : List Step) → end_fault rows nodes plan ≡ None
     → (length nodes ≤ accesses_before plan (length plan)) × (any_below (length rows) (λ node. held plan node (length plan)) ≡ false)
-end_kept rows nodes plan none =
-    let rules = end_rules (ltb (accesses_before plan (length plan)) (length nodes)) (any_below (length rows) (λ node. held plan node (length plan)))
-    (AccessMissing (accesses_before plan (length plan))) (StillHeld (least_below (length rows) (λ node. held plan node (length plan)))) none in
-    (ltb-false (accesses_before plan (length plan)) (length nodes) rules.0, rules.1)
+end_kept rows nodes plan none = grind (arith, end_rules, ltb-false)
 
 obeys : (rows : Rows) (nodes : List ℕ) (plan : List Step) → steps_fault rows nodes plan (length plan) ≡ None
     → any_below (length rows) (λ node. held plan node (length plan)) ≡ false → ObeysTreeProtocol rows plan
 obeys rows nodes plan none free = record {
   locks_nodes = λ i node at. (lock_kept rows plan i node (kept_at rows nodes plan i (Lock node) none at)).0;
   parents = λ i node at later. parent_held rows plan i node (lock_kept rows plan i node (kept_at rows nodes plan i (Lock node) none at)).2 later;
-  once = λ i j node at_i at_j. elim (cases_eq i j) [
-    | inl e ↦ e
-    | inr ne ↦ elim (cases_lt i j) [
-      | inl lt ↦ absurd (no_second rows nodes plan i j node none at_i at_j lt)
-      | inr ge ↦ absurd (no_second rows nodes plan j i node none at_j at_i (omega arith))
-    ]
-  ];
+  once = grind (arith, cases_eq, cases_lt, no_second);
   unlocks_held = λ i node at. (unlock_kept rows plan i node (kept_at rows nodes plan i (Unlock node) none at)).1;
   ends_free = λ node. elim (cases_lt node (length rows)) [
     | inl lt ↦ any_false (length rows) (λ v. held plan v (length plan)) free node lt
     | inr ge ↦ held_not plan node (length plan) (λ at.
-        let lt : node < length rows = (lock_kept rows plan at.at node (kept_at rows nodes plan at.at (Lock node) none at.is_lock)).0 in
-        omega arith)
+        omega (arith, (lock_kept rows plan at.at node (kept_at rows nodes plan at.at (Lock node) none at.is_lock)).0))
   ];
 }
 
@@ -98,9 +88,7 @@ done_at : (rows : Rows) (nodes : List ℕ) (plan : List Step) (k : ℕ) → step
 done_at rows nodes plan k none lt =
     let is : slice_get (accesses_of plan) k ≡ Some (get_or (accesses_of plan) k 0) = slice_get-get_or (accesses_of plan) k 0 lt in
     let own : (get_or (accesses_of plan) k 0 ≡ k) × (get_or (accesses_of plan) k 0 < length nodes) = own_number rows nodes plan k (get_or (accesses_of plan) k 0) none is in
-    let e : get_or (accesses_of plan) k 0 ≡ k = own.0 in
-    let less : get_or (accesses_of plan) k 0 < length nodes = own.1 in
-    (is ∙ ap (λ (n : ℕ). Some n) e, omega arith)
+    grind (arith)
 
 all_done : (rows : Rows) (nodes : List ℕ) (plan : List Step) → steps_fault rows nodes plan (length plan) ≡ None
     → length nodes ≤ accesses_before plan (length plan) → length (accesses_of plan) ≡ length nodes
@@ -117,10 +105,7 @@ performs rows nodes plan none enough =
     let size : length (accesses_of plan) ≡ length nodes = all_done rows nodes plan none enough in
     let numbers : length (numbers_below (length nodes)) ≡ length nodes = numbers_length (length nodes) in
     record {
-      in_order = same_lists (accesses_of plan) (numbers_below (length nodes)) (λ k. elim (cases_lt k (length nodes)) [
-        | inl lt ↦ (done_at rows nodes plan k none (omega arith)).0 ∙ sym (numbers_get (length nodes) k lt)
-        | inr ge ↦ slice_get_past (accesses_of plan) k (omega arith) ∙ sym (slice_get_past (numbers_below (length nodes)) k (omega arith))
-      ]);
+      in_order = grind (arith, cases_lt, done_at, numbers_get, same_lists, slice_get_past);
       while_held = λ i access node at is.
           let rules = access_kept nodes plan i access (kept_at rows nodes plan i (Access access) none at) in
           sym (ap (λ (o : Option ℕ). is_held plan i o) is) ∙ rules.2;
@@ -128,39 +113,25 @@ performs rows nodes plan none enough =
 
 -- a plan without a fault is legal
 pub faultless_legal : (rows : Rows) (nodes : List ℕ) (plan : List Step) → plan_fault_of rows nodes plan ≡ None → IsLegal rows nodes plan
-faultless_legal rows nodes plan none =
-    let parts : (steps_fault rows nodes plan (length plan) ≡ None) × (end_fault rows nodes plan ≡ None) =
-    both_none (steps_fault rows nodes plan (length plan)) (end_fault rows nodes plan) none in
-    let end = end_kept rows nodes plan parts.1 in
-    record { obeys = obeys rows nodes plan parts.0 end.1; performs = performs rows nodes plan parts.0 end.0 }
+faultless_legal rows nodes plan none = grind (arith, both_none, end_kept, obeys, performs)
 
 -- A legal plan has none
 
 later_step : (plan : List Step) (i : ℕ) → is_later plan i ≡ true → IsLater plan i
-later_step plan i is =
-    let found : (k : ℕ) × (k < i) × (is_lock (slice_get plan k) ≡ true) = any_true i (λ k. is_lock (slice_get plan k)) is in
-    let step : (v : ℕ) × (slice_get plan found.0 ≡ Some (Lock v)) = is_lock_true (slice_get plan found.0) found.2 in
-    (found.0, step.0, found.1, step.1)
+later_step plan i is = grind (arith, any_true, is_lock_true)
 
 legal_parent : (rows : Rows) (plan : List Step) (i node : ℕ) → ObeysTreeProtocol rows plan → slice_get plan i ≡ Some (Lock node)
     → (is_later plan i && not (is_held plan i (parent_of rows node))) ≡ false
-legal_parent rows plan i node obeys at = elim (cases_Bool (is_later plan i)) [
-  | inl later ↦ let parent : (p : ℕ) × (parent_of rows node ≡ Some p) × (held plan p i ≡ true) = obeys.parents i node at (later_step plan i later) in
-      and_right (is_later plan i) (not (is_held plan i (parent_of rows node))) (ap (λ (o : Option ℕ). not (is_held plan i o)) parent.1 ∙ ap not parent.2)
-  | inr first ↦ and_left (is_later plan i) (not (is_held plan i (parent_of rows node))) first
-]
+legal_parent rows plan i node obeys at = grind (arith, and_left, and_right, cases_Bool, later_step)
 
 legal_first : (rows : Rows) (plan : List Step) (i node : ℕ) → ObeysTreeProtocol rows plan → slice_get plan i ≡ Some (Lock node)
     → any_below i (λ k. locks node (slice_get plan k)) ≡ false
-legal_first rows plan i node obeys at = any_none i (λ k. locks node (slice_get plan k))
-    (λ k lt. false_from_ne_true (locks node (slice_get plan k))
-    (λ again. let same : k ≡ i = obeys.once k i node (locks_true node (slice_get plan k) again) at in omega arith))
+legal_first rows plan i node obeys at = grind (arith, any_none, false_from_ne_true, locks_true)
 
 legal_step : (rows : Rows) (nodes : List ℕ) (plan : List Step) (i : ℕ) (s : Option Step) → IsLegal rows nodes plan → slice_get plan i ≡ s
     → step_fault rows nodes plan i s ≡ None
 legal_step rows nodes plan i None legal at = refl
-legal_step rows nodes plan i (Some (Lock node)) legal at =
-    lock_fine rows plan i node (legal.obeys.locks_nodes i node at) (legal_first rows plan i node legal.obeys at) (legal_parent rows plan i node legal.obeys at)
+legal_step rows nodes plan i (Some (Lock node)) legal at = grind (arith, legal_first, legal_parent, lock_fine)
 legal_step rows nodes plan i (Some (Unlock node)) legal at =
     let holds : held plan node i ≡ true = legal.obeys.unlocks_held i node at in
     let lock : HeldAt plan node i = held_at plan node i holds in
@@ -184,12 +155,7 @@ legal_faultless rows nodes plan legal =
     let steps : steps_fault rows nodes plan (length plan) ≡ None =
     none_found rows nodes plan (length plan) (λ i lt. legal_step rows nodes plan i (slice_get plan i) legal refl) in
     let count : length (accesses_of plan) ≡ accesses_before plan (length plan) = accesses_length plan in
-    let size : length (accesses_of plan) ≡ length nodes = ap length legal.performs.in_order ∙ numbers_length (length nodes) in
-    ap (λ (first : Option PlanFault). option_or first (end_fault rows nodes plan)) steps
-    ∙ end_none (ltb (accesses_before plan (length plan)) (length nodes)) (any_below (length rows) (λ node. held plan node (length plan)))
-    (AccessMissing (accesses_before plan (length plan))) (StillHeld (least_below (length rows) (λ node. held plan node (length plan))))
-    (le-ltb (accesses_before plan (length plan)) (length nodes) (omega arith))
-    (any_none (length rows) (λ node. held plan node (length plan)) (λ node lt. legal.obeys.ends_free node))
+    grind (arith, any_none, end_none, le-ltb, numbers_length)
 
 -- so the judge's answer says which
 
@@ -209,15 +175,7 @@ illegal_of rows nodes plan (Err fault) is = λ other legal. none-some fault (sym
 -- the table tells the lowest node that is held
 first_same : {lengths : List ℕ} (rows : Rows) (plan : List Step) (position : ℕ) (tally : Tally) → IsTally rows lengths plan position tally
     → first_holding tally.holds.items ≡ cond (any_below (length rows) (λ node. held plan node position)) (Some (least_below (length rows) (λ node. held plan node position))) None
-first_same rows plan position tally tallied =
-    let nodes : length tally.holds.items ≡ length rows = tallied.nodes in
-    let same : (v : ℕ) → v < length rows → holds_node tally.holds.items (Some v) ≡ held plan v position =
-    λ v lt. node_tells (length rows) plan position tally.holds.items (Some v) (λ w is. subst (λ (k : ℕ). k < length rows) (same_Some v w is) lt) tallied.each in
-    let some : any_below (length rows) (λ v. holds_node tally.holds.items (Some v)) ≡ any_below (length rows) (λ v. held plan v position) =
-    any_same (length rows) (λ v. holds_node tally.holds.items (Some v)) (λ v. held plan v position) same in
-    let least : least_below (length rows) (λ v. holds_node tally.holds.items (Some v)) ≡ least_below (length rows) (λ v. held plan v position) =
-    least_agrees (length rows) (λ v. holds_node tally.holds.items (Some v)) (λ v. held plan v position) same in
-    rw (nodes, some, least) refl
+first_same rows plan position tally tallied = grind (arith, any_same, least_agrees, node_tells, same_Some)
 
 still_by : (b : Bool) (n k : ℕ) → cond b (Some n) None ≡ Some k → cond b (Some (StillHeld n)) None ≡ Some (StillHeld k)
 still_by true n k h = cc
@@ -234,24 +192,13 @@ end_is rows nodes plan none = ap (λ (first : Option PlanFault). option_or first
 -- an access that is missing is the plan's fault
 pub missing_is : {lengths : List ℕ} (rows : Rows) (nodes : List ℕ) (plan : List Step) (tally : Tally) → steps_fault rows nodes plan (length plan) ≡ None → IsTally rows lengths plan (length plan) tally
     → tally.accesses < length nodes → plan_fault_of rows nodes plan ≡ Some (AccessMissing tally.accesses)
-missing_is rows nodes plan tally none tallied lt =
-    let count : tally.accesses ≡ accesses_before plan (length plan) = tallied.accesses in
-    end_is rows nodes plan none
-    ∙ cond-true (ltb (accesses_before plan (length plan)) (length nodes)) (Some (AccessMissing (accesses_before plan (length plan))))
-    (cond (any_below (length rows) (λ node. held plan node (length plan))) (Some (StillHeld (least_below (length rows) (λ node. held plan node (length plan))))) None)
-    (lt-ltb (accesses_before plan (length plan)) (length nodes) (omega arith))
-    ∙ ap (λ (n : ℕ). Some (AccessMissing n)) (sym count)
+missing_is rows nodes plan tally none tallied lt = grind (arith, cond-true, end_is, lt-ltb)
 
 -- what is left of the end's fault where no access is missing
 held_left : {lengths : List ℕ} (rows : Rows) (nodes : List ℕ) (plan : List Step) (tally : Tally) → steps_fault rows nodes plan (length plan) ≡ None → IsTally rows lengths plan (length plan) tally
     → length nodes ≤ tally.accesses
     → plan_fault_of rows nodes plan ≡ cond (any_below (length rows) (λ node. held plan node (length plan))) (Some (StillHeld (least_below (length rows) (λ node. held plan node (length plan))))) None
-held_left rows nodes plan tally none tallied enough =
-    let count : tally.accesses ≡ accesses_before plan (length plan) = tallied.accesses in
-    end_is rows nodes plan none
-    ∙ cond-false (ltb (accesses_before plan (length plan)) (length nodes)) (Some (AccessMissing (accesses_before plan (length plan))))
-    (cond (any_below (length rows) (λ node. held plan node (length plan))) (Some (StillHeld (least_below (length rows) (λ node. held plan node (length plan))))) None)
-    (le-ltb (accesses_before plan (length plan)) (length nodes) (omega arith))
+held_left rows nodes plan tally none tallied enough = grind (arith, cond-false, end_is, le-ltb)
 
 -- a node that is still held is the plan's fault where no access is missing
 pub still_is : {lengths : List ℕ} (rows : Rows) (nodes : List ℕ) (plan : List Step) (tally : Tally) (node : ℕ) → steps_fault rows nodes plan (length plan) ≡ None → IsTally rows lengths plan (length plan) tally
@@ -272,15 +219,15 @@ none_is rows nodes plan tally none tallied enough first =
 -- where nothing weighs, nothing is held, since each node weighs something
 weightless : (rows : Rows) → IsWithinLimits rows → (plan : List Step) (position : ℕ) → held_weight rows plan position ≡ 0 → (node : ℕ) → node < length rows → held plan node position ≡ false
 weightless rows limits plan position none node lt = false_from_ne_true (held plan node position) (λ h.
-    let here : ◌≡◌ {A = ℕ} (cond (held plan node position) (weight_of rows node) 0) (weight_of rows node) = cond-true (held plan node position) (weight_of rows node) 0 h in
-    let some : 1 ≤ weight_of rows node = limits.weighty node lt in
-    let le : cond (held plan node position) (weight_of rows node) 0 ≤ held_weight rows plan position = sum_term (length rows) node (λ v. cond (held plan v position) (weight_of rows v) 0) lt in
-    absurd (omega arith))
+    absurd (omega (
+      arith,
+      cond-true (held plan node position) (weight_of rows node) 0 h,
+      limits.weighty node lt,
+      sum_term (length rows) node (λ v. cond (held plan v position) (weight_of rows v) 0) lt,
+    )))
 
 -- so there is no fault there either
 pub weightless_is : {lengths : List ℕ} (rows : Rows) (nodes : List ℕ) (plan : List Step) (tally : Tally) → IsWithinLimits rows → steps_fault rows nodes plan (length plan) ≡ None
     → IsTally rows lengths plan (length plan) tally → length nodes ≤ tally.accesses → tally.weight ≡ 0 → plan_fault_of rows nodes plan ≡ None
 weightless_is rows nodes plan tally limits none tallied enough nothing =
-    held_left rows nodes plan tally none tallied enough
-    ∙ cond-false (any_below (length rows) (λ node. held plan node (length plan))) (Some (StillHeld (least_below (length rows) (λ node. held plan node (length plan))))) None
-    (any_none (length rows) (λ node. held plan node (length plan)) (weightless rows limits plan (length plan) (sym tallied.weight ∙ nothing)))
+    grind (arith, any_none, cond-false, held_left, weightless)

@@ -1,5 +1,6 @@
 -- Holding: what it is for a node to be held at a position, how a step changes it, and where the accesses of a plan stand.
-use Rattle.std.proofs.Common.{◌≡◌, ℕ, zero, suc, ◌<◌, Bool, true, false, not, ◌&&◌, ltb, List, [], ◌∷◌, length, Option, Some, None, refl, sym, ◌∙◌, ap, subst, inl, inr, zero-add, arith, ◌++◌}
+use Rattle.std.proofs.Common.{◌≡◌, ℕ, zero, suc, ◌<◌, Bool, true, false, not, ◌&&◌, ltb, List, [], ◌∷◌, length, Option}
+use Rattle.std.proofs.Common.{Some, None, refl, sym, ◌∙◌, ap, inl, inr, zero-add, arith, ◌++◌}
 use Rattle.std.specs.List.{slice_get}
 use Rattle.std.proofs.lemmas.Option.{none-some, same_Some}
 use Rattle.std.proofs.lemmas.Bool.{cases_lt, cases_eq, both_ways, and_parts, and_from, eqb-true, eq-eqb, ltb-true, lt-ltb, not-true, not_from_false, false_from_ne_true}
@@ -84,24 +85,11 @@ between_none plan v i position h j above below is =
     (and_from (ltb i j) (unlocks v (slice_get plan j)) (lt-ltb i j above) (unlocks_from v (slice_get plan j) is))
 
 none_between : (plan : List Step) (v i position : ℕ) → ((j : ℕ) → i < j → j < position → slice_get plan j ≡ Some (Unlock v) → ⊥) → unlocked_between plan v i position ≡ false
-none_between plan v i position h = any_none position (λ j. ltb i j && unlocks v (slice_get plan j))
-    (λ j lt. false_from_ne_true (ltb i j && unlocks v (slice_get plan j))
-    (λ both. let parts : (ltb i j ≡ true) × (unlocks v (slice_get plan j) ≡ true) = and_parts (ltb i j) (unlocks v (slice_get plan j)) both in
-    h j (ltb-true i j parts.0) lt (unlocks_true v (slice_get plan j) parts.1)))
+none_between plan v i position h = grind (arith, and_parts, any_none, false_from_ne_true, ltb-true, unlocks_true)
 
 -- from the test to the fact
 pub held_at : (plan : List Step) (v position : ℕ) → held plan v position ≡ true → HeldAt plan v position
-held_at plan v position h =
-    let found : (i : ℕ) × (i < position) × ((locks v (slice_get plan i) && not (unlocked_between plan v i position)) ≡ true) =
-    any_true position (λ i. locks v (slice_get plan i) && not (unlocked_between plan v i position)) h in
-    let parts : (locks v (slice_get plan found.0) ≡ true) × (not (unlocked_between plan v found.0 position) ≡ true) =
-    and_parts (locks v (slice_get plan found.0)) (not (unlocked_between plan v found.0 position)) found.2 in
-    record {
-      at = found.0;
-      before = found.1;
-      is_lock = locks_true v (slice_get plan found.0) parts.0;
-      kept = between_none plan v found.0 position (not-true (unlocked_between plan v found.0 position) parts.1);
-    }
+held_at plan v position h = grind (arith, and_parts, any_true, between_none, locks_true, not-true)
 
 -- and back
 pub held_from : (plan : List Step) (v position : ℕ) → HeldAt plan v position → held plan v position ≡ true
@@ -126,35 +114,16 @@ pub held_step_unlock : (plan : List Step) (v i : ℕ) → slice_get plan i ≡ S
 held_step_unlock plan v i h = held_not plan v (suc i) (λ at.
     elim (cases_lt at.at i) [
       | inl lt ↦ at.kept i lt (omega arith) h
-      | inr ge ↦ let before : at.at < suc i = at.before in let e : at.at ≡ i = omega arith in
-          unlock_no_lock v v (sym h ∙ subst (λ (k : ℕ). slice_get plan k ≡ Some (Lock v)) e at.is_lock)
+      | inr ge ↦ grind (arith, unlock_no_lock)
     ])
 
 -- after any other step it is held as before
 pub held_step_other : (plan : List Step) (v i : ℕ) → locks v (slice_get plan i) ≡ false → unlocks v (slice_get plan i) ≡ false → held plan v (suc i) ≡ held plan v i
 held_step_other plan v i no_lock no_unlock = same_tests (held plan v (suc i)) (held plan v i)
     (λ after. let at : HeldAt plan v (suc i) = held_at plan v (suc i) after in
-    let before : at.at < suc i = at.before in
-    held_from plan v i (record {
-      at = at.at;
-      before = elim (cases_eq at.at i) [
-        | inl e ↦ absurd (both_ways (locks v (slice_get plan i)) no_lock (locks_from v (slice_get plan i) (subst (λ (k : ℕ). slice_get plan k ≡ Some (Lock v)) e at.is_lock)))
-        | inr ne ↦ omega arith
-      ];
-      is_lock = at.is_lock;
-      kept = λ j above below is. at.kept j above (omega arith) is;
-    }))
+    grind (arith, both_ways, cases_eq, held_from, locks_from))
     (λ now. let at : HeldAt plan v i = held_at plan v i now in
-    let before : at.at < i = at.before in
-    held_from plan v (suc i) (record {
-      at = at.at;
-      before = omega arith;
-      is_lock = at.is_lock;
-      kept = λ j above below is. elim (cases_eq j i) [
-        | inl e ↦ both_ways (unlocks v (slice_get plan i)) no_unlock (unlocks_from v (slice_get plan i) (subst (λ (k : ℕ). slice_get plan k ≡ Some (Unlock v)) e is))
-        | inr ne ↦ at.kept j above (omega arith) is
-      ];
-    }))
+    grind (arith, both_ways, cases_eq, held_from, unlocks_from))
 
 -- Where the accesses stand
 
@@ -192,8 +161,7 @@ accesses_length [] = refl
 accesses_length (Lock v ∷ plan) = accesses_length plan ∙ sym (count_front (length plan) (λ i. is_access (slice_get (Lock v ∷ plan) i)) ∙ zero-add (accesses_before plan (length plan)))
 accesses_length (Unlock v ∷ plan) = accesses_length plan ∙ sym (count_front (length plan) (λ i. is_access (slice_get (Unlock v ∷ plan) i)) ∙ zero-add (accesses_before plan (length plan)))
 accesses_length (Access b ∷ plan) =
-    let e : length (accesses_of plan) ≡ accesses_before plan (length plan) = accesses_length plan in
-    omega (arith, count_front (length plan) (λ i. is_access (slice_get (Access b ∷ plan) i)))
+    omega (arith, count_front (length plan) (λ i. is_access (slice_get (Access b ∷ plan) i)), accesses_length plan)
 
 -- the accesses of two plans joined
 pub accesses_append : (xs ys : List Step) → accesses_of (xs ++ ys) ≡ accesses_of xs ++ accesses_of ys

@@ -55,19 +55,13 @@ hold_by h a i b e f = cc
 
 hold_same : (plan : List Step) (v position : ℕ) → locks v (slice_get plan position) ≡ false → unlocks v (slice_get plan position) ≡ false
     → hold_of plan v (suc position) ≡ hold_of plan v position
-hold_same plan v position no_lock no_unlock =
-    hold_by (held plan v (suc position)) (any_below (suc position) (λ i. locks v (slice_get plan i))) (held plan v position) (any_below position (λ i. locks v (slice_get plan i)))
-    (held_step_other plan v position no_lock no_unlock) (any_miss position (λ i. locks v (slice_get plan i)) no_lock)
+hold_same plan v position no_lock no_unlock = grind (arith, any_miss, held_step_other, hold_by)
 
 hold_lock : (plan : List Step) (v position : ℕ) → slice_get plan position ≡ Some (Lock v) → hold_of plan v (suc position) ≡ Held
-hold_lock plan v position at =
-    cond-true (held plan v (suc position)) Held (cond (any_below (suc position) (λ i. locks v (slice_get plan i))) Done Free) (held_step_lock plan v position at)
+hold_lock plan v position at = grind (arith, cond-true, held_step_lock)
 
 hold_unlock : (plan : List Step) (v position : ℕ) → slice_get plan position ≡ Some (Unlock v) → held plan v position ≡ true → hold_of plan v (suc position) ≡ Done
-hold_unlock plan v position at holds =
-    cond-false (held plan v (suc position)) Held (cond (any_below (suc position) (λ i. locks v (slice_get plan i))) Done Free) (held_step_unlock plan v position at)
-    ∙ cond-true (any_below (suc position) (λ i. locks v (slice_get plan i))) Done Free
-    (or_right (locks v (slice_get plan position)) (any_below position (λ i. locks v (slice_get plan i))) (held_locked plan v position holds))
+hold_unlock plan v position at holds = grind (arith, cond-false, cond-true, held_locked, held_step_unlock, or_right)
 
 -- what a step is not
 not_locked : (v w : ℕ) (step : Option Step) → step ≡ Some (Lock w) → (v ≡ w → ⊥) → locks v step ≡ false
@@ -93,26 +87,19 @@ access_unlocks v a step at = rw at refl
 -- a lock makes its node held
 pub each_locked : (n : ℕ) (plan : List Step) (position u : ℕ) (holds : List Hold) → slice_get plan position ≡ Some (Lock u) → u < length holds
     → ((v : ℕ) → v < n → get_or holds v Free ≡ hold_of plan v position) → (v : ℕ) → v < n → get_or (set holds u Held) v Free ≡ hold_of plan v (suc position)
-each_locked n plan position u holds at within each v lt = elim (cases_eq v u) [
-  | inl e ↦ rw e (get_or-set_same holds u Held Free within ∙ sym (hold_lock plan u position at))
-  | inr ne ↦ get_or-set_other holds u v Held Free ne ∙ each v lt
-      ∙ sym (hold_same plan v position (not_locked v u (slice_get plan position) at ne) (lock_unlocks v u (slice_get plan position) at))
-]
+each_locked n plan position u holds at within each v lt =
+    grind (arith, cases_eq, get_or-set_other, get_or-set_same, hold_lock, hold_same, lock_unlocks, not_locked)
 
 -- an unlock lets its node go
 pub each_unlocked : (n : ℕ) (plan : List Step) (position u : ℕ) (holds : List Hold) → slice_get plan position ≡ Some (Unlock u) → held plan u position ≡ true → u < length holds
     → ((v : ℕ) → v < n → get_or holds v Free ≡ hold_of plan v position) → (v : ℕ) → v < n → get_or (set holds u Done) v Free ≡ hold_of plan v (suc position)
-each_unlocked n plan position u holds at held within each v lt = elim (cases_eq v u) [
-  | inl e ↦ rw e (get_or-set_same holds u Done Free within ∙ sym (hold_unlock plan u position at held))
-  | inr ne ↦ get_or-set_other holds u v Done Free ne ∙ each v lt
-      ∙ sym (hold_same plan v position (unlock_locks v u (slice_get plan position) at) (not_unlocked v u (slice_get plan position) at ne))
-]
+each_unlocked n plan position u holds at held within each v lt =
+    grind (arith, cases_eq, get_or-set_other, get_or-set_same, hold_same, hold_unlock, not_unlocked, unlock_locks)
 
 -- an access leaves the table
 pub each_accessed : (n : ℕ) (plan : List Step) (position a : ℕ) (holds : List Hold) → slice_get plan position ≡ Some (Access a)
     → ((v : ℕ) → v < n → get_or holds v Free ≡ hold_of plan v position) → (v : ℕ) → v < n → get_or holds v Free ≡ hold_of plan v (suc position)
-each_accessed n plan position a holds at each v lt =
-    each v lt ∙ sym (hold_same plan v position (access_locks v a (slice_get plan position) at) (access_unlocks v a (slice_get plan position) at))
+each_accessed n plan position a holds at each v lt = grind (arith, access_locks, access_unlocks, hold_same)
 
 -- The weight held after a step
 
@@ -120,8 +107,7 @@ each_accessed n plan position a holds at each v lt =
 pub sum_more : (n u d : ℕ) (f g : ℕ → ℕ) → u < n → ((v : ℕ) → v < n → (v ≡ u → ⊥) → g v ≡ f v) → g u ≡ f u + d → sum_below n g ≡ sum_below n f + d
 sum_more zero u d f g lt same more = absurd (omega arith)
 sum_more (suc n) u d f g lt same more = elim (cases_eq u n) [
-  | inl e ↦ let rest : sum_below n g ≡ sum_below n f = sum_same n g f (λ v less. same v (omega arith) (λ is. omega arith)) in
-      let here : g n ≡ f n + d = rw (← e) more in omega arith
+  | inl e ↦ grind (arith, sum_same)
   | inr ne ↦ let rest : sum_below n g ≡ sum_below n f + d = sum_more n u d f g (omega arith) (λ v less other. same v (omega arith) other) more in
       let here : g n ≡ f n = same n (omega arith) (λ is. ne (sym is)) in omega arith
 ]
@@ -160,9 +146,7 @@ weight_unlocked rows plan position u at lt holds =
 
 -- an access leaves it
 pub weight_accessed : (rows : Rows) (plan : List Step) (position a : ℕ) → slice_get plan position ≡ Some (Access a) → held_weight rows plan (suc position) ≡ held_weight rows plan position
-weight_accessed rows plan position a at =
-    sum_same (length rows) (share rows plan (suc position)) (share rows plan position)
-    (λ v less. share_same rows plan v position (access_locks v a (slice_get plan position) at) (access_unlocks v a (slice_get plan position) at))
+weight_accessed rows plan position a at = grind (arith, access_locks, access_unlocks, share_same, sum_same)
 
 -- The cost after a step
 
@@ -177,10 +161,7 @@ nothing_more false x n none = omega arith
 -- a step that takes no slots costs nothing
 pub cost_same : (rows : Rows) (lengths : List ℕ) (plan : List Step) (position : ℕ) → slots_of lengths (slice_get plan position) ≡ 0
     → cost_before rows lengths plan (suc position) ≡ cost_before rows lengths plan position
-cost_same rows lengths plan position none =
-    sum_same (length rows) (λ v. weight_of rows v * held_slots lengths plan v (suc position)) (λ v. weight_of rows v * held_slots lengths plan v position)
-    (λ v less. ap (λ (n : ℕ). weight_of rows v * n)
-    (nothing_more (held plan v position) (slots_of lengths (slice_get plan position)) (held_slots lengths plan v position) none))
+cost_same rows lengths plan position none = grind (arith, nothing_more, sum_same)
 
 part_more : (h : Bool) (w x n : ℕ) → w * (cond h x 0 + n) ≡ w * n + cond h w 0 * x
 part_more true w x n = let e : w * (x + n) ≡ w * x + w * n = mul-add w x n in omega arith
@@ -189,10 +170,7 @@ part_more false w x n = let e : w * (0 + n) ≡ w * n = ap (λ (k : ℕ). w * k)
 -- a factor behind each term
 sum_times : (n c : ℕ) (f : ℕ → ℕ) → sum_below n (λ v. f v * c) ≡ sum_below n f * c
 sum_times zero c f = sym (zero-mul c)
-sum_times (suc n) c f =
-    let rest : sum_below n (λ v. f v * c) ≡ sum_below n f * c = sum_times n c f in
-    let both : (f n + sum_below n f) * c ≡ f n * c + sum_below n f * c = add-mul (f n) (sum_below n f) c in
-    omega arith
+sum_times (suc n) c f = grind (arith, add-mul, sum_times n c f)
 
 -- a step costs the weight held for each slot that it takes
 pub cost_accessed : (rows : Rows) (lengths : List ℕ) (plan : List Step) (position : ℕ)
@@ -211,22 +189,13 @@ sum_small zero f small = omega arith
 sum_small (suc n) f small = let here : f n ≤ 1000 = small n in let rest : sum_below n f ≤ 1000 * n = sum_small n f small in omega arith
 
 share_small : (rows : Rows) (plan : List Step) (position v : ℕ) → weight_of rows v ≤ 1000 → share rows plan position v ≤ 1000
-share_small rows plan position v light = elim (cases_Bool (held plan v position)) [
-  | inl holds ↦ let e : share rows plan position v ≡ weight_of rows v = share_held rows plan v position holds in omega arith
-  | inr free ↦ let e : share rows plan position v ≡ 0 = share_free rows plan v position free in omega arith
-]
+share_small rows plan position v light = grind (arith, cases_Bool, share_free, share_held)
 
 -- no more is held than all nodes of a tree weigh
 pub weight_small : (rows : Rows) (plan : List Step) (position : ℕ) → IsWithinLimits rows → held_weight rows plan position ≤ 4096000
-weight_small rows plan position limits =
-    let few : length rows ≤ 4096 = limits.few in
-    let small : held_weight rows plan position ≤ 1000 * length rows =
-    sum_small (length rows) (share rows plan position) (λ v. share_small rows plan position v (limits.light v)) in
-    omega arith
+weight_small rows plan position limits = grind (arith, share_small, sum_small)
 
 -- a held node's weight is part of it
 pub weight_part : (rows : Rows) (plan : List Step) (position u : ℕ) → u < length rows → held plan u position ≡ true → weight_of rows u ≤ held_weight rows plan position
 weight_part rows plan position u lt holds =
-    let e : share rows plan position u ≡ weight_of rows u = share_held rows plan u position holds in
-    let part : share rows plan position u ≤ held_weight rows plan position = sum_term (length rows) u (share rows plan position) lt in
-    omega arith
+    omega (arith, share_held rows plan u position holds, sum_term (length rows) u (share rows plan position) lt)

@@ -1,5 +1,6 @@
 -- The rules of single steps: what the first fault of a step says, and when there is none.
-use Rattle.std.proofs.Common.{◌≡◌, ℕ, zero, suc, ◌<◌, ◌≤◌, Bool, true, false, not, ◌&&◌, ltb, eqb, cond, List, length, Option, Some, None, refl, ◌∙◌, ap, inl, inr, arith}
+use Rattle.std.proofs.Common.{◌≡◌, ℕ, zero, suc, ◌<◌, ◌≤◌, Bool, true, false, not, ◌&&◌, ltb, cond, List, length}
+use Rattle.std.proofs.Common.{Option, Some, None, refl, ◌∙◌, ap, inl, inr, arith}
 use Rattle.std.specs.List.{slice_get}
 use Rattle.std.proofs.lemmas.Bool.{cases_lt, lt-ltb, le-ltb, ltb-true, eqb-true, ne_eqb, eq-eqb, not-false}
 use Rattle.std.specs.Option.{option_or}
@@ -49,9 +50,7 @@ two_kept false b x y h = absurd (cc)
 
 -- the lock of a number that is no node is strange
 pub lock_strange : (rows : Rows) (plan : List Step) (position node : ℕ) → length rows ≤ node → lock_fault rows plan position node ≡ Some (Strange position)
-lock_strange rows plan position node ge =
-    first_fault (ltb node (length rows)) (any_below position (λ i. locks node (slice_get plan i))) (is_later plan position && not (is_held plan position (parent_of rows node)))
-    (Strange position) (Relock position) (ParentNotHeld position) (le-ltb node (length rows) ge)
+lock_strange rows plan position node ge = grind (arith, first_fault, le-ltb)
 
 -- the lock of a node that was locked is a relock
 pub lock_again : (rows : Rows) (plan : List Step) (position node : ℕ) → node < length rows → any_below position (λ i. locks node (slice_get plan i)) ≡ true
@@ -61,24 +60,17 @@ lock_again rows plan position node lt before = second_fault (ltb node (length ro
 -- a later lock without the parent held lacks it
 pub lock_alone : (rows : Rows) (plan : List Step) (position node : ℕ) → node < length rows → any_below position (λ i. locks node (slice_get plan i)) ≡ false
     → (is_later plan position && not (is_held plan position (parent_of rows node))) ≡ true → lock_fault rows plan position node ≡ Some (ParentNotHeld position)
-lock_alone rows plan position node lt before parent =
-    third_fault (ltb node (length rows)) (any_below position (λ i. locks node (slice_get plan i))) (is_later plan position && not (is_held plan position (parent_of rows node))) _ _ _
-    (lt-ltb node (length rows) lt) before parent
+lock_alone rows plan position node lt before parent = grind (arith, lt-ltb, third_fault)
 
 -- any other lock has no fault
 pub lock_fine : (rows : Rows) (plan : List Step) (position node : ℕ) → node < length rows → any_below position (λ i. locks node (slice_get plan i)) ≡ false
     → (is_later plan position && not (is_held plan position (parent_of rows node))) ≡ false → lock_fault rows plan position node ≡ None
-lock_fine rows plan position node lt before parent =
-    no_fault (ltb node (length rows)) (any_below position (λ i. locks node (slice_get plan i))) (is_later plan position && not (is_held plan position (parent_of rows node))) _ _ _
-    (lt-ltb node (length rows) lt) before parent
+lock_fine rows plan position node lt before parent = grind (arith, lt-ltb, no_fault)
 
 -- a lock without a fault keeps the three rules
 pub lock_kept : (rows : Rows) (plan : List Step) (position node : ℕ) → lock_fault rows plan position node ≡ None
     → (node < length rows) × (any_below position (λ i. locks node (slice_get plan i)) ≡ false) × ((is_later plan position && not (is_held plan position (parent_of rows node))) ≡ false)
-lock_kept rows plan position node none =
-    let kept = rules_kept (ltb node (length rows)) (any_below position (λ i. locks node (slice_get plan i))) (is_later plan position && not (is_held plan position (parent_of rows node)))
-    (Strange position) (Relock position) (ParentNotHeld position) none in
-    (ltb-true node (length rows) kept.0, kept.1, kept.2)
+lock_kept rows plan position node none = grind (arith, ltb-true, rules_kept)
 
 -- An unlock
 
@@ -88,58 +80,41 @@ unlock_strange rows plan position node ge = rw (le-ltb node (length rows) ge) re
 
 -- the unlock of a node that isn't held is at fault
 pub unlock_unheld : (rows : Rows) (plan : List Step) (position node : ℕ) → node < length rows → held plan node position ≡ false → unlock_fault rows plan position node ≡ Some (NotHeld position)
-unlock_unheld rows plan position node lt free =
-    second_fault (ltb node (length rows)) (not (held plan node position)) false (Strange position) (NotHeld position) (NotHeld position) (lt-ltb node (length rows) lt) (ap not free)
+unlock_unheld rows plan position node lt free = grind (arith, lt-ltb, second_fault)
 
 -- any other unlock has no fault
 pub unlock_fine : (rows : Rows) (plan : List Step) (position node : ℕ) → node < length rows → held plan node position ≡ true → unlock_fault rows plan position node ≡ None
-unlock_fine rows plan position node lt holds =
-    no_fault (ltb node (length rows)) (not (held plan node position)) false (Strange position) (NotHeld position) (NotHeld position) (lt-ltb node (length rows) lt) (ap not holds) refl
+unlock_fine rows plan position node lt holds = grind (arith, lt-ltb, no_fault)
 
 -- an unlock without a fault is of a node that is held
 pub unlock_kept : (rows : Rows) (plan : List Step) (position node : ℕ) → unlock_fault rows plan position node ≡ None → (node < length rows) × (held plan node position ≡ true)
-unlock_kept rows plan position node none =
-    let kept = two_kept (ltb node (length rows)) (not (held plan node position)) (Strange position) (NotHeld position) none in
-    (ltb-true node (length rows) kept.0, not-false (held plan node position) kept.1)
+unlock_kept rows plan position node none = grind (arith, ltb-true, not-false, two_kept)
 
 -- An access
 
 -- an access of a number that is none of the list's is strange
 pub access_strange : (nodes : List ℕ) (plan : List Step) (position access : ℕ) → length nodes ≤ access → access_fault nodes plan position access ≡ Some (Strange position)
-access_strange nodes plan position access ge =
-    first_fault (ltb access (length nodes)) (not (eqb access (accesses_before plan position))) (not (is_held plan position (slice_get nodes access)))
-    (Strange position) (WrongAccess position) (AccessNotHeld position) (le-ltb access (length nodes) ge)
+access_strange nodes plan position access ge = grind (arith, first_fault, le-ltb)
 
 -- an access out of turn is wrong
 pub access_wrong : (nodes : List ℕ) (plan : List Step) (position access : ℕ) → access < length nodes → (access ≡ accesses_before plan position → ⊥)
     → access_fault nodes plan position access ≡ Some (WrongAccess position)
-access_wrong nodes plan position access lt other =
-    second_fault (ltb access (length nodes)) (not (eqb access (accesses_before plan position))) _ _ _ _ (lt-ltb access (length nodes) lt) (ap not (ne_eqb access (accesses_before plan position) other))
+access_wrong nodes plan position access lt other = grind (arith, lt-ltb, ne_eqb, second_fault)
 
 -- an access of a node that isn't held is at fault
 pub access_unheld : (nodes : List ℕ) (plan : List Step) (position access : ℕ) → access < length nodes → access ≡ accesses_before plan position
     → is_held plan position (slice_get nodes access) ≡ false → access_fault nodes plan position access ≡ Some (AccessNotHeld position)
-access_unheld nodes plan position access lt next free =
-    third_fault (ltb access (length nodes)) (not (eqb access (accesses_before plan position))) (not (is_held plan position (slice_get nodes access))) _ _ _
-    (lt-ltb access (length nodes) lt) (ap not (eq-eqb access (accesses_before plan position) next)) (ap not free)
+access_unheld nodes plan position access lt next free = grind (arith, eq-eqb, lt-ltb, third_fault)
 
 -- any other access has no fault
 pub access_fine : (nodes : List ℕ) (plan : List Step) (position access : ℕ) → access < length nodes → access ≡ accesses_before plan position
     → is_held plan position (slice_get nodes access) ≡ true → access_fault nodes plan position access ≡ None
-access_fine nodes plan position access lt next holds =
-    no_fault (ltb access (length nodes)) (not (eqb access (accesses_before plan position))) (not (is_held plan position (slice_get nodes access))) _ _ _
-    (lt-ltb access (length nodes) lt) (ap not (eq-eqb access (accesses_before plan position) next)) (ap not holds)
+access_fine nodes plan position access lt next holds = grind (arith, eq-eqb, lt-ltb, no_fault)
 
 -- an access without a fault keeps the three rules
 pub access_kept : (nodes : List ℕ) (plan : List Step) (position access : ℕ) → access_fault nodes plan position access ≡ None
     → (access < length nodes) × (access ≡ accesses_before plan position) × (is_held plan position (slice_get nodes access) ≡ true)
-access_kept nodes plan position access none =
-    let kept = rules_kept (ltb access (length nodes)) (not (eqb access (accesses_before plan position))) (not (is_held plan position (slice_get nodes access)))
-    (Strange position) (WrongAccess position) (AccessNotHeld position) none in (
-      ltb-true access (length nodes) kept.0,
-      eqb-true access (accesses_before plan position) (not-false (eqb access (accesses_before plan position)) kept.1),
-      not-false (is_held plan position (slice_get nodes access)) kept.2,
-    )
+access_kept nodes plan position access none = grind (arith, eqb-true, ltb-true, not-false, rules_kept)
 
 -- Many steps
 

@@ -1,5 +1,7 @@
 -- A tally: what it tells of the next step, and that it goes on with it.
-use Rattle.std.proofs.Common.{◌≡◌, ℕ, suc, ◌+◌, ◌-◌, ◌*◌, ◌<◌, ◌≤◌, Bool, true, false, not, ◌&&◌, ◌||◌, List, length, get_or, set, replicate, Option, Some, None, refl, sym, ◌∙◌, ap, add-one, mul-le-mul_left, arith}
+use Rattle.std.proofs.Common.{◌≡◌, ℕ, suc, ◌+◌, ◌-◌, ◌*◌, ◌<◌, ◌≤◌, Bool, true, false, not, ◌&&◌, ◌||◌, List, length}
+use Rattle.std.proofs.Common.{get_or, set, replicate, Option, Some, None, refl, sym, ◌∙◌, ap, add-one, mul-le-mul_left}
+use Rattle.std.proofs.Common.{arith, rules}
 use Rattle.std.specs.Prelude.{slice_index}
 use Rattle.std.specs.List.{slice_get}
 use Rattle.std.proofs.lemmas.List.{length-set, get_or-replicate, length-replicate}
@@ -49,8 +51,7 @@ flip false b e = rw e refl
 -- the table tells whether a node was locked before
 pub locked_by : {lengths : List ℕ} (rows : Rows) (plan : List Step) (position node : ℕ) (b : Bool) (tally : Tally) → IsTally rows lengths plan position tally → node < length rows
     → is_free (get_or tally.holds.items node Free) ≡ b → any_below position (λ i. locks node (slice_get plan i)) ≡ not b
-locked_by rows plan position node b tally tallied lt test =
-    flip (any_below position (λ i. locks node (slice_get plan i))) b (sym test ∙ ap is_free (tallied.each node lt) ∙ free_tells plan node position)
+locked_by rows plan position node b tally tallied lt test = grind (arith, flip, free_tells)
 
 -- and whether it is held
 pub held_by : {lengths : List ℕ} (rows : Rows) (plan : List Step) (position node : ℕ) (b : Bool) (tally : Tally) → IsTally rows lengths plan position tally → node < length rows
@@ -60,29 +61,22 @@ held_by rows plan position node b tally tallied lt test = sym (holding_tells pla
 -- a parent is held just where the table says so
 pub parent_by : {lengths : List ℕ} (rows : Rows) (plan : List Step) (position node : ℕ) (tally : Tally) → IsTree rows → IsTally rows lengths plan position tally → node < length rows
     → holds_node tally.holds.items (parent_of rows node) ≡ is_held plan position (parent_of rows node)
-parent_by rows plan position node tally tree tallied lt =
-    node_tells (length rows) plan position tally.holds.items (parent_of rows node)
-    (λ parent is. let less : parent < node = parent_lt rows tree node parent is in omega arith)
-    tallied.each
+parent_by rows plan position node tally tree tallied lt = grind (arith, node_tells, parent_lt)
 
 -- where the table doesn't have the parent held, a later lock lacks it
 pub parent_missed : {lengths : List ℕ} (rows : Rows) (plan : List Step) (position node : ℕ) (tally : Tally) → IsTree rows → IsTally rows lengths plan position tally → node < length rows
     → tally.later ≡ true → holds_node tally.holds.items (parent_of rows node) ≡ false → (is_later plan position && not (is_held plan position (parent_of rows node))) ≡ true
-parent_missed rows plan position node tally tree tallied lt later free =
-    and_from (is_later plan position) (not (is_held plan position (parent_of rows node))) (sym tallied.later ∙ later)
-    (ap not (sym (parent_by rows plan position node tally tree tallied lt) ∙ free))
+parent_missed rows plan position node tally tree tallied lt later free = grind (arith, and_from, parent_by)
 
 -- where it has, none is lacking
 pub parent_kept : {lengths : List ℕ} (rows : Rows) (plan : List Step) (position node : ℕ) (tally : Tally) → IsTree rows → IsTally rows lengths plan position tally → node < length rows
     → holds_node tally.holds.items (parent_of rows node) ≡ true → (is_later plan position && not (is_held plan position (parent_of rows node))) ≡ false
-parent_kept rows plan position node tally tree tallied lt holds =
-    and_right (is_later plan position) (not (is_held plan position (parent_of rows node))) (ap not (sym (parent_by rows plan position node tally tree tallied lt) ∙ holds))
+parent_kept rows plan position node tally tree tallied lt holds = grind (arith, and_right, parent_by)
 
 -- the first lock needs no parent
 pub first_kept : {lengths : List ℕ} (rows : Rows) (plan : List Step) (position node : ℕ) (tally : Tally) → IsTally rows lengths plan position tally
     → tally.later ≡ false → (is_later plan position && not (is_held plan position (parent_of rows node))) ≡ false
-first_kept rows plan position node tally tallied first =
-    and_left (is_later plan position) (not (is_held plan position (parent_of rows node))) (sym tallied.later ∙ first)
+first_kept rows plan position node tally tallied first = grind (arith, and_left)
 
 -- whether the node of an access is held
 pub access_by : (plan : List Step) (position : ℕ) (o : Option ℕ) (node : ℕ) (b : Bool) → o ≡ Some node → held plan node position ≡ b → is_held plan position o ≡ b
@@ -97,15 +91,8 @@ free_held plan v position none = false_from_ne_true (held plan v position) (λ h
 -- before the first step
 pub tally_starts : {lengths : List ℕ} (rows : Rows) (plan : List Step) (tally : Tally) → tally.holds.items ≡ replicate (length rows) Free → tally.later ≡ false
     → tally.accesses ≡ 0 → tally.weight ≡ 0 → tally.cost ≡ 0 → IsTally rows lengths plan 0 tally
-tally_starts rows plan tally holds later accesses weight cost = record {
-  nodes = ap length holds ∙ length-replicate (length rows) Free;
-  each = λ node lt. rw holds (get_or-replicate (length rows) node Free Free lt);
-  later = later;
-  accesses = accesses;
-  weight = weight ∙ sym (sum_zero (length rows) (λ node. 0) (λ node lt. refl));
-  cost = cost ∙ sym (sum_zero (length rows) (λ node. weight_of rows node * 0) (λ node lt. omega arith));
-  small = omega arith;
-}
+tally_starts rows plan tally holds later accesses weight cost =
+    grind (arith, get_or-replicate, length-replicate, sum_zero)
 
 later_lock : (plan : List Step) (position u : ℕ) → slice_get plan position ≡ Some (Lock u) → is_later plan (suc position) ≡ true
 later_lock plan position u at = ap (λ (s : Option Step). is_lock s || is_later plan position) at
@@ -142,17 +129,7 @@ next_locked {lengths} rows plan position u tally after tallied at kept holds lat
     let nodes : length tally.holds.items ≡ length rows = tallied.nodes in
     let lt : u < length rows = kept.0 in
     let quick : slots_of lengths (slice_get plan position) ≡ 0 = lock_slots lengths (slice_get plan position) u at in
-    let none : is_access (slice_get plan position) ≡ false = lock_access (slice_get plan position) u at in
-    let weighed : held_weight rows plan (suc position) ≡ held_weight rows plan position + weight_of rows u = weight_locked rows plan position u at lt (free_held plan u position kept.1) in
-    record {
-      nodes = ap length holds ∙ length-set tally.holds.items u Held ∙ nodes;
-      each = rw holds (each_locked (length rows) plan position u tally.holds.items at (omega arith) tallied.each);
-      later = later ∙ sym (later_lock plan position u at);
-      accesses = accesses ∙ tallied.accesses ∙ sym (count_miss position (λ i. is_access (slice_get plan i)) none);
-      weight = weight ∙ ap (λ (w : ℕ). w + weight_of rows u) tallied.weight ∙ sym weighed;
-      cost = cost ∙ tallied.cost ∙ sym (cost_same rows lengths plan position quick);
-      small = let small : tally.cost ≤ 4096000000 * position = tallied.small in omega arith;
-    }
+    grind (arith, cost_same, count_miss, each_locked, free_held, later_lock, length-set, lock_access, weight_locked)
 
 next_unlocked : {lengths : List ℕ} (rows : Rows) (plan : List Step) (position u : ℕ) (tally after : Tally) → IsTally rows lengths plan position tally → slice_get plan position ≡ Some (Unlock u)
     → (u < length rows) × (held plan u position ≡ true) → after.holds.items ≡ set tally.holds.items u Done → after.later ≡ tally.later → after.accesses ≡ tally.accesses
@@ -161,18 +138,7 @@ next_unlocked {lengths} rows plan position u tally after tallied at kept holds l
     let nodes : length tally.holds.items ≡ length rows = tallied.nodes in
     let lt : u < length rows = kept.0 in
     let quick : slots_of lengths (slice_get plan position) ≡ 0 = unlock_slots lengths (slice_get plan position) u at in
-    let none : is_access (slice_get plan position) ≡ false = unlock_access (slice_get plan position) u at in
-    let weighed : held_weight rows plan position ≡ held_weight rows plan (suc position) + weight_of rows u = weight_unlocked rows plan position u at lt kept.1 in
-    let was : tally.weight ≡ held_weight rows plan position = tallied.weight in
-    record {
-      nodes = ap length holds ∙ length-set tally.holds.items u Done ∙ nodes;
-      each = rw holds (each_unlocked (length rows) plan position u tally.holds.items at kept.1 (omega arith) tallied.each);
-      later = later ∙ tallied.later ∙ sym (later_unlock plan position u at);
-      accesses = accesses ∙ tallied.accesses ∙ sym (count_miss position (λ i. is_access (slice_get plan i)) none);
-      weight = omega arith;
-      cost = cost ∙ tallied.cost ∙ sym (cost_same rows lengths plan position quick);
-      small = let small : tally.cost ≤ 4096000000 * position = tallied.small in omega arith;
-    }
+    grind (arith, cost_same, count_miss, each_unlocked, later_unlock, length-set, unlock_access, weight_unlocked)
 
 next_accessed : {lengths : List ℕ} (rows : Rows) (plan : List Step) (position a : ℕ) (tally after : Tally) → IsWithinLimits rows → IsTally rows lengths plan position tally → slice_get plan position ≡ Some (Access a)
     → after.holds.items ≡ tally.holds.items → after.later ≡ tally.later → after.accesses ≡ tally.accesses + 1
@@ -185,18 +151,7 @@ next_accessed {lengths} rows plan position a tally after limits tallied at holds
     let slots : slots_of lengths (slice_get plan position) ≡ slice_index lengths a = ap (slots_of lengths) at in
     let costs : cost_before rows lengths plan (suc position) ≡ cost_before rows lengths plan position + held_weight rows plan position * slots_of lengths (slice_get plan position) =
     cost_accessed rows lengths plan position in
-    let product : tally.weight * slice_index lengths a ≡ held_weight rows plan position * slots_of lengths (slice_get plan position) = rw (was, slots) refl in
-    let few : slice_index lengths a ≤ 1000 = few_slots lengths a are in
-    let small_part : tally.weight * slice_index lengths a ≤ 4096000000 = part_small tally.weight (slice_index lengths a) (omega arith) few in
-    record {
-      nodes = ap length holds ∙ tallied.nodes;
-      each = rw holds (each_accessed (length rows) plan position a tally.holds.items at tallied.each);
-      later = later ∙ tallied.later ∙ sym (later_access plan position a at);
-      accesses = accesses ∙ add-one tally.accesses ∙ ap suc tallied.accesses ∙ sym (count_hit position (λ i. is_access (slice_get plan i)) access);
-      weight = weight ∙ was ∙ sym (weight_accessed rows plan position a at);
-      cost = omega arith;
-      small = let small : tally.cost ≤ 4096000000 * position = tallied.small in omega arith;
-    }
+    grind (arith, add-one, count_hit, each_accessed, few_slots, later_access, part_small, weight_accessed)
 
 -- The same as the code reads a step and writes the table
 
@@ -229,14 +184,11 @@ tally_accessed rows plan position a d tally after limits within read tallied hol
 
 -- the weight held fits its type
 pub tallied_weight : {lengths : List ℕ} (rows : Rows) (plan : List Step) (position : ℕ) (tally : Tally) → IsWithinLimits rows → IsTally rows lengths plan position tally → tally.weight ≤ 4096000
-tallied_weight rows plan position tally limits tallied =
-    let was : tally.weight ≡ held_weight rows plan position = tallied.weight in
-    let light : held_weight rows plan position ≤ 4096000 = weight_small rows plan position limits in omega arith
+tallied_weight rows plan position tally limits tallied = grind (arith, weight_small)
 
 -- and a held node's weight is part of it
 pub tallied_part : {lengths : List ℕ} (rows : Rows) (nodes : List ℕ) (plan : List Step) (position u : ℕ) (d : Step) (tally : Tally) → position < length plan → get_or plan position d ≡ Unlock u
     → IsTally rows lengths plan position tally → step_fault rows nodes plan position (slice_get plan position) ≡ None → weight_of rows u ≤ tally.weight
 tallied_part rows nodes plan position u d tally within read tallied kept =
     let rules = unlock_kept rows plan position u (kept_read rows nodes plan position (Unlock u) d within read kept) in
-    let was : tally.weight ≡ held_weight rows plan position = tallied.weight in
-    let part : weight_of rows u ≤ held_weight rows plan position = weight_part rows plan position u rules.0 rules.1 in omega arith
+    omega (arith, tallied.weight, weight_part rows plan position u rules.0 rules.1)

@@ -1,8 +1,6 @@
-use Rattle.std.proofs.Common.{◌≡◌, ◌<◌, ◌≤◌, ◌^◌, length, sym, ◌∙◌, ap, inl, inr, arith}
+use Rattle.std.proofs.Common.{sym, ◌∙◌, inl, inr, arith}
 use Rattle.grove_base.proofs.Counting.{count_le}
 use Rattle.grove_plan.specs.Plans.{unlocks, is_access}
-use Rattle.grove_plan.specs.Slots.{accesses_before}
-use Rattle.std.specs.List.{slice_get}
 use Rattle.grove_plan.proofs.AccessCounts.{count_on, count_found}
 use Rattle.grove_plan.proofs.plan.Plan.release_slot.Goals as goal
 use Rattle.grove_plan.proofs.plan.Plan.release_slot.Goals.{then-is_access, else-is_access}
@@ -14,12 +12,7 @@ returns-then-unlocks c =
     (sym c.unlocks.ensures ∙ c.if-unlocks.true) (rw (c.deref-step-items.ensures.value ∙ c.self.view_is) c.loop-step.invariant))
 
 pub overflow_add-accesses : goal.overflow_add-accesses
-overflow_add-accesses c =
-    let few : length c.self.inside.steps.items < 2 ^ 32 = c.self.invariant in
-    let same : length c.deref-step-items.result.now ≡ length c.self.inside.steps.items = ap length c.deref-step-items.ensures.value in
-    let at_most : accesses_before c.args.self.now c.loop-step.step-index ≤ c.loop-step.step-index =
-    count_le c.loop-step.step-index (λ i. is_access (slice_get c.args.self.now i)) in
-    omega arith
+overflow_add-accesses c = grind (arith, count_le)
 
 pub loop-step-preserved : goal.loop-step-preserved
 loop-step-preserved c =

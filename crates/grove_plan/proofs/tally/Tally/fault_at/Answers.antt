@@ -9,9 +9,7 @@ use Rattle.grove_plan.proofs.tally.Tally.fault_at.Goals as goal
 use Rattle.grove_plan.proofs.tally.Tally.fault_at.Goals.{else-self-via-then-self+else-not-holds_parent, else-self-via-else-self}
 
 pub hold-requires-else-access-self : goal.hold-requires-else-access-self
-hold-requires-else-access-self c =
-    let lt : c.get.result.node < length c.args.tree.now = c.requires.fits c.in-Access.access c.get.result.node (node_at c.args.list.now c.in-Access.access c.get.result c.get.ensures) in
-    omega (arith, c.requires.tallied.nodes)
+hold-requires-else-access-self c = grind (arith, node_at)
 
 pub returns-then-number-len : goal.returns-then-number-len
 returns-then-number-len c =
@@ -44,11 +42,8 @@ returns-else-self c =
     (locked_by c.args.tree.now c.args.plan.now c.args.position c.in-Lock.node true c.args.self.now c.requires.tallied lt
     (sym (ap is_free c.hold.ensures) ∙ sym c.is_free.ensures ∙ c.if-not-is_free.false))
     (elim c.else-self.branch [
-      | else-self-via-then-self+else-not-holds_parent w ↦
-          parent_kept c.args.tree.now c.args.plan.now c.args.position c.in-Lock.node c.args.self.now c.len.ensures.tree c.requires.tallied lt
-          (sym w.holds_parent.ensures ∙ w.if-not-holds_parent.false)
-      | else-self-via-else-self w ↦
-          first_kept c.args.tree.now c.args.plan.now c.args.position c.in-Lock.node c.args.self.now c.requires.tallied w.if-self.false
+      | else-self-via-then-self+else-not-holds_parent w ↦ grind (arith, parent_kept)
+      | else-self-via-else-self w ↦ grind (arith, first_kept)
     ]))
 
 pub returns-then-number-len-2 : goal.returns-then-number-len-2

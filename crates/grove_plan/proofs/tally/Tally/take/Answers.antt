@@ -1,23 +1,15 @@
-use Rattle.std.proofs.Common.{◌≡◌, ◌<◌, ◌≤◌, ◌+◌, ◌-◌, ◌*◌, length, refl, sym, ◌∙◌, ap, arith}
-use Rattle.std.specs.Prelude.{slice_index}
-use Rattle.std.specs.List.{slice_get}
-use Rattle.grove_access.specs.Lists.{nodes_of, lengths_of}
+use Rattle.std.proofs.Common.{◌<◌, ◌+◌, ◌-◌, ◌*◌, length, refl, sym, ◌∙◌, ap, arith}
+use Rattle.grove_access.specs.Lists.{nodes_of}
 use Rattle.grove_access.proofs.Lists.{nodes_length}
 use Rattle.grove_access.proofs.Slots.{length_read, few_slots}
-use Rattle.grove_tree.specs.Trees.{weight_of}
 use Rattle.grove_base.proofs.Counting.{count_le}
 use Rattle.grove_plan.specs.declared.step.Step.TheVariants.{Unlock, Access}
-use Rattle.grove_plan.specs.Plans.{is_access}
-use Rattle.grove_plan.specs.Slots.{accesses_before}
 use Rattle.grove_plan.proofs.StepFaults.{unlock_kept, access_kept}
 use Rattle.grove_plan.proofs.TallyState.{kept_read, tally_locked, tally_unlocked, tally_accessed, tallied_weight, tallied_part, part_small}
 use Rattle.grove_plan.proofs.tally.Tally.take.Goals as goal
 
 pub overflow_add-self : goal.overflow_add-self
-overflow_add-self c =
-    let held : c.args.self.now.weight ≤ 4096000 = tallied_weight c.args.tree.now c.args.plan.now c.args.position c.args.self.now c.requires.limits c.requires.tallied in
-    let light : weight_of c.args.tree.now c.in-Lock.node ≤ 1000 = c.requires.limits.light c.in-Lock.node in
-    omega arith
+overflow_add-self c = grind (arith, tallied_weight)
 
 pub index_mut-requires-in-Unlock : goal.index_mut-requires-in-Unlock
 index_mut-requires-in-Unlock c =
@@ -31,35 +23,16 @@ weight-requires-in-Unlock c =
     (kept_read c.args.tree.now (nodes_of c.args.list.now) c.args.plan.now c.args.position (Unlock c.in-Unlock.node) _ c.requires.within c.in-Unlock.is c.requires.faultless)).0
 
 pub overflow_sub-self : goal.overflow_sub-self
-overflow_sub-self c =
-    let part : weight_of c.args.tree.now c.in-Unlock.node ≤ c.args.self.now.weight =
-    tallied_part c.args.tree.now (nodes_of c.args.list.now) c.args.plan.now c.args.position c.in-Unlock.node _ c.args.self.now c.requires.within c.in-Unlock.is c.requires.tallied c.requires.faultless in
-    omega arith
+overflow_sub-self c = grind (arith, tallied_part)
 
 pub overflow_add-self-in-Access : goal.overflow_add-self-in-Access
-overflow_add-self-in-Access c =
-    let count : c.args.self.now.accesses ≡ accesses_before c.args.plan.now c.args.position = c.requires.tallied.accesses in
-    let at_most : accesses_before c.args.plan.now c.args.position ≤ c.args.position = count_le c.args.position (λ i. is_access (slice_get c.args.plan.now i)) in
-    omega arith
+overflow_add-self-in-Access c = grind (arith, count_le)
 
 pub overflow_add-self-in-Access-2 : goal.overflow_add-self-in-Access-2
-overflow_add-self-in-Access-2 c =
-    let held : c.args.self.now.weight ≤ 4096000 = tallied_weight c.args.tree.now c.args.plan.now c.args.position c.args.self.now c.requires.limits c.requires.tallied in
-    let small : c.args.self.now.cost ≤ 4096000000 * c.args.position = c.requires.tallied.small in
-    let read : slice_index (lengths_of c.args.list.now) c.in-Access.access ≡ c.get.result.length = length_read c.args.list.now c.in-Access.access c.get.result c.get.ensures in
-    let few : slice_index (lengths_of c.args.list.now) c.in-Access.access ≤ 1000 = few_slots (lengths_of c.args.list.now) c.in-Access.access c.requires.lengths in
-    let same : c.from-in-Access.result ≡ c.get.result.length = c.from-in-Access.ensures in
-    let part : c.args.self.now.weight * c.from-in-Access.result ≤ 4096000000 = part_small c.args.self.now.weight c.from-in-Access.result held (omega arith) in
-    omega arith
+overflow_add-self-in-Access-2 c = grind (arith, few_slots, length_read, part_small, tallied_weight)
 
 pub overflow_mul-self : goal.overflow_mul-self
-overflow_mul-self c =
-    let held : c.args.self.now.weight ≤ 4096000 = tallied_weight c.args.tree.now c.args.plan.now c.args.position c.args.self.now c.requires.limits c.requires.tallied in
-    let read : slice_index (lengths_of c.args.list.now) c.in-Access.access ≡ c.get.result.length = length_read c.args.list.now c.in-Access.access c.get.result c.get.ensures in
-    let few : slice_index (lengths_of c.args.list.now) c.in-Access.access ≤ 1000 = few_slots (lengths_of c.args.list.now) c.in-Access.access c.requires.lengths in
-    let same : c.from-in-Access.result ≡ c.get.result.length = c.from-in-Access.ensures in
-    let part : c.args.self.now.weight * c.from-in-Access.result ≤ 4096000000 = part_small c.args.self.now.weight c.from-in-Access.result held (omega arith) in
-    omega arith
+overflow_mul-self c = grind (arith, few_slots, length_read, part_small, tallied_weight)
 
 pub get-requires : goal.get-requires
 get-requires c =
