@@ -27,14 +27,10 @@ pub in_without : (known : List Known) (item : Known) (value : ℤ) (bucket : ℕ
     → in_bucket known bucket ≡ in_bucket (without known item.node) bucket + in_bucket (item ∷ []) bucket
 in_without [] item value bucket at = absurd (none-some value at)
 in_without (k ∷ known) item value bucket at = elim (cases_eq k.node item.node) [
-  | inl same ↦
-      let less : in_bucket (without (k ∷ known) item.node) bucket ≡ in_bucket known bucket = ap (λ ks. in_bucket ks bucket) (without_first (k ∷ known) k known item.node refl same) in
-      let one : in_bucket (k ∷ []) bucket ≡ in_bucket (item ∷ []) bucket = ap (λ (n : ℕ). in_bucket (record { node = n; value = value } ∷ []) bucket) same in
-      omega arith
+  | inl same ↦ grind (arith, without_first)
   | inr other ↦
-      let less : in_bucket (without (k ∷ known) item.node) bucket ≡ in_bucket (k ∷ without known item.node) bucket = ap (λ ks. in_bucket ks bucket) (without_later (k ∷ known) k known item.node refl other) in
       let rest : in_bucket known bucket ≡ in_bucket (without known item.node) bucket + in_bucket (item ∷ []) bucket = in_without known item value bucket (sym (known_later (k ∷ known) k known item.node refl other) ∙ at) in
-      omega arith
+      omega (arith, ap (λ ks. in_bucket ks bucket) (without_later (k ∷ known) k known item.node refl other))
 ]
 
 -- a node whose bucket is empty isn't there
@@ -55,35 +51,23 @@ counts_settled counts entries known new is right = λ bucket count at few. right
 
 -- the other buckets have as many as before
 other_more : (known : List Known) (item : Known) (place bucket : ℕ) → place ≡ item.node % 256 → bucket ≢ place → in_bucket (known ++ item ∷ []) bucket ≡ in_bucket known bucket
-other_more known item place bucket own other =
-    let more : in_bucket (known ++ item ∷ []) bucket ≡ in_bucket known bucket + in_bucket (item ∷ []) bucket = in_more known item bucket in
-    let none : in_bucket (item ∷ []) bucket ≡ 0 = in_other item bucket (λ e. other (sym e ∙ sym own)) in omega arith
+other_more known item place bucket own other = grind (arith, in_more, in_other)
 
 other_less : (known : List Known) (item : Known) (value : ℤ) (place bucket : ℕ) → known_at known item.node ≡ Some value → place ≡ item.node % 256 → bucket ≢ place
     → in_bucket (without known item.node) bucket ≡ in_bucket known bucket
-other_less known item value place bucket out own other =
-    let less : in_bucket known bucket ≡ in_bucket (without known item.node) bucket + in_bucket (item ∷ []) bucket = in_without known item value bucket out in
-    let none : in_bucket (item ∷ []) bucket ≡ 0 = in_other item bucket (λ e. other (sym e ∙ sym own)) in omega arith
+other_less known item value place bucket out own other = grind (arith, in_other, in_without)
 
 -- counts are right again once that of the one bucket is that has changed
 pub counts_changed : (counts new : List ℕ) (known changed : List Known) (place made : ℕ) → place < length counts → new ≡ set counts place made
     → (made < 255 → made ≡ in_bucket changed place) → ((bucket : ℕ) → bucket ≢ place → in_bucket changed bucket ≡ in_bucket known bucket)
     → Counts counts known → Counts new changed
-counts_changed counts new known changed place made within is here others right = λ bucket count at few. elim (cases_eq bucket place) [
-  | inl same ↦
-      let read : made ≡ count = same_Some made count (sym (get_set_same counts place made within) ∙ ap (λ (n : ℕ). slice_get (set counts place made) n) (sym same) ∙ sym (ap (λ (cs : List ℕ). slice_get cs bucket) is) ∙ at) in
-      let all : made ≡ in_bucket changed place = here (omega arith) in
-      sym read ∙ all ∙ ap (in_bucket changed) (sym same)
-  | inr other ↦
-      right bucket count (sym (get_set_other counts place bucket made other) ∙ sym (ap (λ (cs : List ℕ). slice_get cs bucket) is) ∙ at) few ∙ sym (others bucket other)
-]
+counts_changed counts new known changed place made within is here others right =
+    grind (arith, cases_eq, get_set_other, get_set_same, same_Some)
 
 -- a bucket that isn't counted may change
 counts_past : (counts : List ℕ) (known changed : List Known) (place : ℕ) → length counts ≤ place
     → ((bucket : ℕ) → bucket ≢ place → in_bucket changed bucket ≡ in_bucket known bucket) → Counts counts known → Counts counts changed
-counts_past counts known changed place past others right = λ bucket count at few.
-    let within : bucket < length counts = slice_get_within counts bucket count at in
-    right bucket count at few ∙ sym (others bucket (λ same. absurd (omega (arith, same, within, past))))
+counts_past counts known changed place past others right = grind (arith, slice_get_within)
 
 pub counts_past_more : (counts : List ℕ) (known : List Known) (item : Known) (place : ℕ) → place ≡ item.node % 256 → length counts ≤ place → Counts counts known → Counts counts (known ++ item ∷ [])
 counts_past_more counts known item place own past right =
@@ -98,11 +82,8 @@ pub counts_more : (counts new : List ℕ) (known : List Known) (item : Known) (p
     → new ≡ set counts place made → (made < 255 → (count < 255) × (made ≡ count + 1)) → Counts counts known → Counts new (known ++ item ∷ [])
 counts_more counts new known item place count made own within at is one right =
     counts_changed counts new known (known ++ item ∷ []) place made within is
-    (λ few. let was : count ≡ in_bucket known place = right place count at (one few).0 in
-    let more : in_bucket (known ++ item ∷ []) place ≡ in_bucket known place + in_bucket (item ∷ []) place = in_more known item place in
-    let mine : in_bucket (item ∷ []) place ≡ 1 = ap (in_bucket (item ∷ [])) own ∙ in_own item item.node refl in
-    let made_is : made ≡ count + 1 = (one few).1 in
-    omega arith)
+    (λ few. let mine : in_bucket (item ∷ []) place ≡ 1 = ap (in_bucket (item ∷ [])) own ∙ in_own item item.node refl in
+    omega (arith, right place count at (one few).0, in_more known item place, (one few).1))
     (λ bucket other. other_more known item place bucket own other)
     right
 
@@ -111,10 +92,7 @@ pub counts_less : (counts new : List ℕ) (known : List Known) (item : Known) (v
     → slice_get counts place ≡ Some count → new ≡ set counts place made → (made < 255 → (count < 255) × (made ≡ count - 1)) → Counts counts known → Counts new (without known item.node)
 counts_less counts new known item value place count made out own within at is one right =
     counts_changed counts new known (without known item.node) place made within is
-    (λ few. let was : count ≡ in_bucket known place = right place count at (one few).0 in
-    let less : in_bucket known place ≡ in_bucket (without known item.node) place + in_bucket (item ∷ []) place = in_without known item value place out in
-    let mine : in_bucket (item ∷ []) place ≡ 1 = ap (in_bucket (item ∷ [])) own ∙ in_own item item.node refl in
-    let made_is : made ≡ count - 1 = (one few).1 in
-    omega arith)
+    (λ few. let mine : in_bucket (item ∷ []) place ≡ 1 = ap (in_bucket (item ∷ [])) own ∙ in_own item item.node refl in
+    omega (arith, right place count at (one few).0, in_without known item value place out, (one few).1))
     (λ bucket other. other_less known item value place bucket out own other)
     right

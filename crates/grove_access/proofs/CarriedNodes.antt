@@ -1,5 +1,7 @@
 -- The nodes that are out, and what entries leave in them.
-use Rattle.std.proofs.Common.{◌≡◌, ◌≢◌, ℕ, zero, suc, ◌+◌, ◌<◌, ◌≤◌, ℤ, false, cond, eqb, List, [], ◌∷◌, ◌++◌, length, take, drop, set, get_or, slice_get, Option, Some, None, is_some, refl, ap, sym, ◌∙◌, subst, inl, inr, arith, add-one, append_assoc}
+use Rattle.std.proofs.Common.{◌≡◌, ◌≢◌, ℕ, zero, suc, ◌+◌, ◌<◌, ◌≤◌, ℤ, cond, eqb, List, [], ◌∷◌, ◌++◌, length, take}
+use Rattle.std.proofs.Common.{drop, set, get_or, slice_get, Option, Some, None, refl, ap, sym, ◌∙◌, inl, inr, arith}
+use Rattle.std.proofs.Common.{add-one, append_assoc}
 use Rattle.std.proofs.Math.Seq.{take-append_seam, get_or-append_seam, set-append_seam}
 use Rattle.std.proofs.lemmas.Option.{slice_get_within, slice_get-get_or, get_or_from_slice_get, none-some, same_Some}
 use Rattle.std.proofs.lemmas.Bool.{cond-true, cond-false, eq-eqb, ne_eqb, cases_eq}
@@ -29,39 +31,19 @@ without_later known item rest node e other = rw e (cond-false (eqb item.node nod
 -- a node that stands at the place is found there, since none stands twice
 pub stands_there : (known : List Known) (node place : ℕ) (item : Known) → slice_get known place ≡ Some item → item.node ≡ node → AreApart known → StandsAt known node place
 stands_there [] node place item at same apart = absurd (none-some item at)
-stands_there (k ∷ known) node zero item at same apart =
-    let is : k ≡ item = same_Some k item at in
-    let first : k.node ≡ node = ap (λ (x : Known). x.node) is ∙ same in
-    record {
-      item = item;
-      there = at;
-      value = known_first (k ∷ known) k known node refl first ∙ ap (λ (x : Known). Some x.value) is;
-      others = without_first (k ∷ known) k known node refl first;
-    }
+stands_there (k ∷ known) node zero item at same apart = grind (arith, known_first, same_Some, without_first)
 stands_there (k ∷ known) node (suc place) item at same apart =
-    let later : StandsAt known node place = stands_there known node place item at same apart.1 in
-    let other : k.node ≢ node = λ e. none-some later.item.value (sym apart.0 ∙ ap (known_at known) e ∙ later.value) in
-    record {
-      item = later.item;
-      there = later.there;
-      value = known_later (k ∷ known) k known node refl other ∙ later.value;
-      others = without_later (k ∷ known) k known node refl other ∙ ap (λ ks. k ∷ ks) later.others;
-    }
+    grind (arith, known_later, none-some, without_later, stands_there known node place item at same apart.1)
 
 -- what stands at a place is read there
 pub stands_value : (known : List Known) (node place : ℕ) (item : Known) (value : ℤ) → StandsAt known node place → item ≡ get_or known place item → value ≡ item.value → Some value ≡ known_at known node
-stands_value known node place item value stands read is =
-    let same : item ≡ stands.item = read ∙ get_or_from_slice_get known place stands.item item stands.there in
-    ap (λ (v : ℤ). Some v) (is ∙ ap (λ (k : Known). k.value) same) ∙ sym stands.value
+stands_value known node place item value stands read is = grind (arith, get_or_from_slice_get)
 
 -- An item read, or not
 
 -- a node that isn't out is neither the first one nor among the rest
 pub none_rest : (item : Known) (known : List Known) (node : ℕ) → known_at (item ∷ known) node ≡ None → (item.node ≢ node) × (known_at known node ≡ None)
-none_rest item known node none = elim (cases_eq item.node node) [
-  | inl same ↦ absurd (none-some item.value (sym none ∙ known_first (item ∷ known) item known node refl same))
-  | inr other ↦ (other, sym (known_later (item ∷ known) item known node refl other) ∙ none)
-]
+none_rest item known node none = grind (arith, cases_eq, known_first, known_later, none-some)
 
 -- one node more
 
@@ -88,10 +70,7 @@ apart_more (k ∷ known) item apart none =
 
 -- entries stay sound where a node is put
 pub sound_held : (known more : List Known) (entries : List Entry) (item : Known) → more ≡ known ++ item ∷ [] → known_at known item.node ≡ None → IsSound known entries → IsSound more entries
-sound_held known more entries item e none sound = subst (λ ks. IsSound ks entries) (sym e) (record {
-  apart = apart_more known item sound.apart none;
-  replied = λ i entry at. let was = sound.replied i entry at in (was.0, known_more known item entry.access.node was.0 was.1, was.2);
-})
+sound_held known more entries item e none sound = grind (arith, apart_more, known_more)
 
 -- one node less
 
@@ -106,28 +85,17 @@ none_without (k ∷ known) gone node none =
 
 apart_without : (known : List Known) (gone : ℕ) → AreApart known → AreApart (without known gone)
 apart_without [] gone apart = tt
-apart_without (k ∷ known) gone apart = elim (cases_eq k.node gone) [
-  | inl same ↦ rw (without_first (k ∷ known) k known gone refl same) apart.1
-  | inr other ↦ rw (without_later (k ∷ known) k known gone refl other) (none_without known gone k.node apart.0, apart_without known gone apart.1)
-]
+apart_without (k ∷ known) gone apart =
+    grind (arith, cases_eq, none_without, without_first, without_later, apart_without known gone apart.1)
 
 -- without a node there are no more
 pub length-without : (known : List Known) (gone : ℕ) → length (without known gone) ≤ length known
 length-without [] gone = omega arith
-length-without (k ∷ known) gone = elim (cases_eq k.node gone) [
-  | inl same ↦ let e : length (without (k ∷ known) gone) ≡ length known = ap length (without_first (k ∷ known) k known gone refl same) in omega arith
-  | inr other ↦
-      let e : length (without (k ∷ known) gone) ≡ suc (length (without known gone)) = ap length (without_later (k ∷ known) k known gone refl other) in
-      let le : length (without known gone) ≤ length known = length-without known gone in
-      omega arith
-]
+length-without (k ∷ known) gone = grind (arith, cases_eq, without_first, without_later, length-without known gone)
 
 -- no entries are sound whatever is out
 pub sound_without : (known less : List Known) (entries : List Entry) (gone : ℕ) → less ≡ without known gone → entries ≡ [] → IsSound known entries → IsSound less entries
-sound_without known less entries gone e none sound = rw (e, none) (record {
-  apart = apart_without known gone sound.apart;
-  replied = λ i entry at. absurd (none-some entry at);
-})
+sound_without known less entries gone e none sound = grind (arith, apart_without, none-some)
 
 -- without a node that isn't there
 pub without_none : (known : List Known) (gone : ℕ) → known_at known gone ≡ None → without known gone ≡ known
@@ -144,13 +112,7 @@ settled_one entries k = record { node = k.node; value = value_after entries k.no
 -- each node's known value is then its present one
 pub settled_at : (entries : List Entry) (known : List Known) (node : ℕ) → known_at (settled entries known) node ≡ present_from entries node (known_at known node)
 settled_at entries [] node = refl
-settled_at entries (k ∷ known) node = elim (cases_eq k.node node) [
-  | inl same ↦ known_first (settled entries (k ∷ known)) (settled_one entries k) (settled entries known) node refl same
-      ∙ ap (λ (n : ℕ). Some (value_after entries n k.value)) same
-      ∙ ap (present_from entries node) (sym (known_first (k ∷ known) k known node refl same))
-  | inr other ↦ known_later (settled entries (k ∷ known)) (settled_one entries k) (settled entries known) node refl other
-      ∙ settled_at entries known node ∙ ap (present_from entries node) (sym (known_later (k ∷ known) k known node refl other))
-]
+settled_at entries (k ∷ known) node = grind (arith, cases_eq, known_first, known_later, settled_at entries known node)
 
 apart_settled : (entries : List Entry) (known : List Known) → AreApart known → AreApart (settled entries known)
 apart_settled entries [] apart = tt
@@ -163,10 +125,7 @@ length-settled entries (k ∷ known) = ap suc (length-settled entries known)
 
 -- and no entries are sound over them
 pub sound_settled : (known new : List Known) (entries none : List Entry) → new ≡ settled entries known → none ≡ [] → IsSound known entries → IsSound new none
-sound_settled known new entries none e empty sound = rw (e, empty) (record {
-  apart = apart_settled entries known sound.apart;
-  replied = λ i entry at. absurd (none-some entry at);
-})
+sound_settled known new entries none e empty sound = grind (arith, apart_settled, none-some)
 
 -- no entries leave what is known
 pub settled_nothing : (known : List Known) → known ≡ settled [] known
@@ -206,22 +165,8 @@ take_all xs ys i j e f = let here : i ≡ length xs = omega arith in rw here (ta
 pub sound_applied : (known : List Known) (entries more : List Entry) (entry : Entry) (value : ℤ) → more ≡ entries ++ entry ∷ []
     → present_from entries entry.access.node (known_at known entry.access.node) ≡ Some value → entry.reply ≡ answer entry.access.op value
     → IsSound known entries → IsSound known more
-sound_applied known entries more entry value grown out answered sound = rw grown (record {
-  apart = sound.apart;
-  replied = λ i e at. elim (get_append_cases entries (entry ∷ []) i e at) [
-    | inl there ↦
-        let was = sound.replied i e there in
-        let lt : i < length entries = slice_get_within entries i e there in
-        let same : take i (entries ++ entry ∷ []) ≡ take i entries = take-append-le i entries (entry ∷ []) (omega arith) in
-        (was.0, was.1, was.2 ∙ ap (λ es. answer e.access.op (value_after es e.access.node was.0)) (sym same))
-    | inr last ↦
-        let is : entry ≡ e = last_item entry e last.0 last.2 in
-        let v = out_value entries entry.access.node (known_at known entry.access.node) value out in
-        let same : take i (entries ++ entry ∷ []) ≡ entries = take_all entries (entry ∷ []) i last.0 last.1 (last_place entry e last.0 last.2) in
-        subst (λ (x : Entry). (w : ℤ) × (known_at known x.access.node ≡ Some w) × (x.reply ≡ answer x.access.op (value_after (take i (entries ++ entry ∷ [])) x.access.node w))) is
-        (v.0, v.1, answered ∙ ap (answer entry.access.op) (sym v.2 ∙ ap (λ es. value_after es entry.access.node v.0) (sym same)))
-  ];
-})
+sound_applied known entries more entry value grown out answered sound =
+    grind (arith, get_append_cases, grown, last_item, last_place, out_value, slice_get_within, take-append-le, take_all)
 
 -- one item more made settled
 
@@ -242,16 +187,6 @@ settle_on entries opening now place old new lt so_far read made =
     (ap (λ (x : Known). settled entries (take place opening) ++ x ∷ []) (made ∙ ap (λ (x : Known). settled_one entries x) was)
     ∙ sym (settled-append entries (take place opening) k) ∙ ap (λ (ks : List Known). settled entries ks) (sym (take_next opening place k at)))
     ∙ ap (λ (n : ℕ). settled entries (take n opening) ++ drop n opening) (sym (add-one place))
-
--- nothing was found
-pub none_found : {A : Type 0} (o : Option A) → is_some o ≡ false → o ≡ None
-none_found None h = refl
-none_found (Some x) h = absurd (cc)
-
--- a list without an item
-pub nothing_in : {A : Type 0} (xs : List A) → length xs ≡ 0 → xs ≡ []
-nothing_in [] h = refl
-nothing_in (x ∷ xs) h = absurd (omega arith)
 
 -- one item more
 pub length-more : {A : Type 0} (xs more : List A) (x : A) → more ≡ xs ++ x ∷ [] → length more ≡ length xs + 1

@@ -41,8 +41,7 @@ pub is_common_true : (rows : Rows) (nodes : List ℕ) (node : ℕ) → is_common
 is_common_true rows nodes node h access target there =
     let none : any_below (length nodes) (λ a. not (covers rows node (slice_get nodes a))) ≡ false = not-true (any_below (length nodes) (λ a. not (covers rows node (slice_get nodes a)))) h in
     let miss : not (covers rows node (slice_get nodes access)) ≡ false = any_false (length nodes) (λ a. not (covers rows node (slice_get nodes a))) none access (slice_get_within nodes access target there) in
-    let found : (low : ℕ) × (slice_get nodes access ≡ Some low) × IsAbove rows node low = covers_true rows node (slice_get nodes access) (not-false (covers rows node (slice_get nodes access)) miss) in
-    subst (λ (low : ℕ). IsAbove rows node low) (same_Some found.0 target (sym found.1 ∙ there)) found.2
+    grind (arith, covers_true, not-false, same_Some)
 
 -- and in a tree such a node passes it
 pub is_common_from : (rows : Rows) (nodes : List ℕ) (node : ℕ) → IsTree rows → IsCommon rows nodes node → is_common rows nodes node ≡ true
@@ -116,13 +115,7 @@ listed_forced rows nodes i node tree fits h = forced_got rows nodes node tree fi
 
 -- an accessed node is forced
 pub accessed_is_forced : (rows : Rows) (nodes : List ℕ) (access node : ℕ) → slice_get nodes access ≡ Some node → IsForcedByTree rows nodes node
-accessed_is_forced rows nodes access node h = record {
-  access = access;
-  target = node;
-  names = h;
-  covers = (0, refl);
-  below = λ common is. is access node h;
-}
+accessed_is_forced rows nodes access node h = grind (arith)
 
 -- the root is above every node of a list
 pub root_is_common : (rows : Rows) (nodes : List ℕ) → IsTree rows → AreNodes rows nodes → IsCommon rows nodes 0

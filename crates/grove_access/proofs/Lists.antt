@@ -1,11 +1,14 @@
 -- Accesses seen by their nodes.
-use Rattle.std.proofs.Common.{◌≡◌, ℕ, zero, suc, ◌<◌, ◌≤◌, nat_lt, Bool, true, false, List, [], ◌∷◌, length, drop, slice_get, Option, Some, None, refl, ap, sym, ◌∙◌, subst, inl, inr, option_map, is_some, not, IsTrue, ◌↔◌}
+use Rattle.std.proofs.Common.{◌≡◌, ℕ, zero, suc, ◌<◌, ◌≤◌, nat_lt, Bool, true, false, List, [], ◌∷◌, length, drop}
+use Rattle.std.proofs.Common.{slice_get, Option, Some, None, refl, ap, sym, ◌∙◌, subst, inl, inr, option_map, is_some}
+use Rattle.std.proofs.Common.{not, IsTrue, ◌↔◌, arith}
 use Rattle.std.proofs.Math.Seq.{drop-cons}
 use Rattle.std.proofs.lemmas.Option.{slice_get_within, get_or_from_slice_get, none-some, same_Some}
 use Rattle.std.proofs.lemmas.Bool.{cond-true, cond-false, lt-ltb, le-ltb, cases_lt, cases_Bool, and_parts, and_from, leb-true, le-leb}
 use Rattle.grove_access.specs.declared.access.Access.{Access}
 use Rattle.grove_access.specs.Lists.{nodes_of, lengths_of, AreBelow, is_length}
 use Rattle.grove_access.specs.ListFaults.{AreLengths, first_beyond, first_bad_length}
+use Rattle.grove_base.proofs.Lists.{none_there}
 
 -- what stands at a place stands first in what is left from there
 pub drop_next : {A : Type 0} (xs : List A) (i : ℕ) (x : A) → slice_get xs i ≡ Some x → drop i xs ≡ x ∷ drop (suc i) xs
@@ -40,26 +43,16 @@ below_none n place (node ∷ nodes) found access other at = elim (cases_lt node 
 
 -- a place beyond n was found only where some node is not below n
 pub beyond_refused : (n m place : ℕ) (nodes : List ℕ) → m ≡ n → Some place ≡ first_beyond m 0 nodes → ¬ AreBelow n nodes
-beyond_refused n m place nodes size found =
-    λ below. none-some place (sym (none_beyond n 0 nodes below) ∙ sym (found ∙ ap (λ (k : ℕ). first_beyond k 0 nodes) size))
-
--- nothing was found
-none_from : (found : Option ℕ) → is_some found ≡ false → found ≡ None
-none_from None h = refl
-none_from (Some place) h = absurd (cc)
+beyond_refused n m place nodes size found = grind (arith, none-some, none_beyond)
 
 -- the answer that no place was found beyond n tells whether all nodes are below n
 pub found_tells : (n m : ℕ) (list seen : List Access) (found : Option ℕ) (answer : Bool) → found ≡ first_beyond m 0 (nodes_of seen) → m ≡ n → seen ≡ list
     → is_some found ≡ not answer → IsTrue answer ↔ AreBelow n (nodes_of list)
-found_tells n m list seen found true is size same test =
-    let none : found ≡ None = none_from found test in
-    let below : AreBelow m (nodes_of seen) = below_none m 0 (nodes_of seen) (sym is ∙ none) in
-    (λ _. rw (← size, ← same) below, λ _. refl)
+found_tells n m list seen found true is size same test = grind (arith, below_none, none_there)
 found_tells n m list seen found false is size same test = (
   λ truth. absurd (cc),
   λ below. let none : first_beyond n 0 (nodes_of list) ≡ None = none_beyond n 0 (nodes_of list) below in
-      let some : is_some (first_beyond n 0 (nodes_of list)) ≡ true = rw (← size, ← same, ← is) test in
-      absurd (cc (ap is_some none)),
+      grind (arith),
 )
 
 -- there are as many nodes as accesses

@@ -32,37 +32,22 @@ some_slots lengths i are lt = (are i (slice_index lengths i) (slice_get-get_or l
 
 -- no access has more than 1000
 pub few_slots : (lengths : List ℕ) (i : ℕ) → AreLengths lengths → slice_index lengths i ≤ 1000
-few_slots lengths i are = elim (cases_lt i (length lengths)) [
-  | inl lt ↦ (are i (slice_index lengths i) (slice_get-get_or lengths i 0 lt)).1
-  | inr past ↦ let none : slice_index lengths i ≡ 0 = get_or_past lengths i 0 past in omega arith
-]
+few_slots lengths i are = grind (arith, cases_lt, get_or_past, slice_get-get_or)
 
 -- so there are at most 1000 for each access before
 pub slots_few : (lengths : List ℕ) (i : ℕ) → AreLengths lengths → slots_before lengths i ≤ 1000 * i
 slots_few lengths zero are = omega arith
-slots_few lengths (suc i) are =
-    let before : slots_before lengths i ≤ 1000 * i = slots_few lengths i are in
-    let here : slice_index lengths i ≤ 1000 = few_slots lengths i are in
-    omega arith
+slots_few lengths (suc i) are = grind (arith, few_slots, slots_few lengths i are)
 
 -- so a later access has more slots before it
 pub slots_more : (lengths : List ℕ) (i j : ℕ) → AreLengths lengths → i < j → j ≤ length lengths → slots_before lengths i < slots_before lengths j
 slots_more lengths i zero are lt le = absurd (omega arith)
-slots_more lengths i (suc j) are lt le =
-    let before : slots_before lengths i ≤ slots_before lengths j = slots_rise lengths i j (omega arith) in
-    let some : 1 ≤ slice_index lengths j = some_slots lengths j are (omega arith) in
-    omega arith
+slots_more lengths i (suc j) are lt le = grind (arith, slots_rise, some_slots)
 
 -- and the slots tell the access
 pub slots_back : (lengths : List ℕ) (i j : ℕ) → AreLengths lengths → i ≤ length lengths → slots_before lengths i ≤ slots_before lengths j → i ≤ j
-slots_back lengths i j are within le = elim (cases_lt j i) [
-  | inl less ↦ let more : slots_before lengths j < slots_before lengths i = slots_more lengths j i are less within in absurd (omega arith)
-  | inr fine ↦ fine
-]
+slots_back lengths i j are within le = grind (arith, cases_lt, slots_more)
 
 -- accesses with the same slots before them are one
 pub slots_tell : (lengths : List ℕ) (i j : ℕ) → AreLengths lengths → i ≤ length lengths → j ≤ length lengths → slots_before lengths i ≡ slots_before lengths j → i ≡ j
-slots_tell lengths i j are a b same =
-    let up : i ≤ j = slots_back lengths i j are a (omega arith) in
-    let down : j ≤ i = slots_back lengths j i are b (omega arith) in
-    omega arith
+slots_tell lengths i j are a b same = grind (arith, slots_back)

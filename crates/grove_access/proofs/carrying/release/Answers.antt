@@ -1,4 +1,4 @@
-use Rattle.std.proofs.Common.{◌≡◌, ◌<◌, length, Some, subst, sym, ◌∙◌, ap, arith}
+use Rattle.std.proofs.Common.{◌≡◌, ◌<◌, length, Some, subst, arith}
 use Rattle.std.proofs.lemmas.Int.{to_z-of_z}
 use Rattle.std.proofs.lemmas.Option.{slice_get_within}
 use Rattle.grove_access.specs.Carries.{known_at}
@@ -7,8 +7,7 @@ use Rattle.grove_access.proofs.CarriedNodes.{stands_value, without_none}
 use Rattle.grove_access.proofs.carrying.release.Goals as goal
 
 pub returns-in_err-place-clause-items : goal.returns-in_err-place-clause-items
-returns-in_err-place-clause-items c =
-    sym (without_none c.args.known.now.items c.args.node (ap (λ ks. known_at ks c.args.node) (sym c.deref.ensures.value) ∙ c.in_err-place.ensures))
+returns-in_err-place-clause-items c = grind (arith, without_none)
 
 pub remove-requires : goal.remove-requires
 remove-requires c =
