@@ -3,7 +3,7 @@ use Rattle.std.proofs.Common.{◌≡◌, ℕ, zero, suc, ◌+◌, ◌-◌, ◌<�
 use Rattle.std.specs.Option.{option_and_then}
 use Rattle.std.proofs.lemmas.Option.{none-some, same_Some, slice_get_past, option_and_then_some}
 use Rattle.std.proofs.lemmas.Bool.{cases_lt}
-use Rattle.grove_tree.specs.Trees.{Rows, NodeRow, parent_of, up, IsAbove, IsTree}
+use Rattle.grove_tree.specs.Trees.{Rows, parent_of, up, IsAbove, IsTree}
 
 -- a step up from an earlier node is a step up from here
 pub up_add : (rows : Rows) (m n v a : ℕ) → up rows m v ≡ Some a → up rows (n + m) v ≡ up rows n a
@@ -31,10 +31,7 @@ up_none rows (suc n) v h = ap (λ (o : Option ℕ). option_and_then (parent_of r
 
 -- a node that has a parent is a node of the tree
 pub parent_within : (rows : Rows) (v p : ℕ) → parent_of rows v ≡ Some p → v < length rows
-parent_within rows v p h = elim (cases_lt v (length rows)) [
-  | inl y ↦ y
-  | inr y ↦ absurd (none-some p (sym (ap (λ (o : Option NodeRow). option_and_then (λ (row : NodeRow). row.parent) o) (slice_get_past rows v y)) ∙ h))
-]
+parent_within rows v p h = grind (arith, cases_lt, none-some, slice_get_past)
 
 -- the parent of a node is above it
 pub parent_above : (rows : Rows) (v p : ℕ) → parent_of rows v ≡ Some p → IsAbove rows p v
@@ -47,9 +44,7 @@ up_le_from rows bound less zero v b lt h = let e : v ≡ b = same_Some v b h in 
 up_le_from rows bound less (suc n) v b lt h =
     option_and_then_some (parent_of rows) (up rows n v) b h
     (λ x there step.
-    let le : x + n ≤ v = up_le_from rows bound less n v x lt there in
-    let below : b < x = less x b (omega arith) step in
-    omega arith)
+    grind (arith, up_le_from rows bound less n v x lt there))
 
 -- parents are smaller, below a bound
 pub less_parents : (rows : Rows) → IsTree rows → (bound v p : ℕ) → v < bound → parent_of rows v ≡ Some p → p < v
@@ -58,8 +53,7 @@ less_parents rows tree (suc bound) zero p lt h = absurd (none-some p (sym tree.r
 less_parents rows tree (suc bound) (suc u) p lt h =
     let place : (parent : ℕ) × (parent_of rows (suc u) ≡ Some parent) × IsAbove rows parent u = tree.preorder u (parent_within rows (suc u) p h) in
     let e : place.0 ≡ p = same_Some place.0 p (sym place.1 ∙ h) in
-    let le : place.0 + place.2.0 ≤ u = up_le_from rows bound (less_parents rows tree bound) place.2.0 u place.0 (omega arith) place.2.1 in
-    omega arith
+    omega (arith, up_le_from rows bound (less_parents rows tree bound) place.2.0 u place.0 (omega arith) place.2.1)
 
 -- a parent has a smaller number
 pub parent_lt : (rows : Rows) → IsTree rows → (v p : ℕ) → parent_of rows v ≡ Some p → p < v
@@ -75,16 +69,11 @@ above_le rows tree a b h = let le : a + h.0 ≤ b = up_le rows tree h.0 b a h.1 
 
 -- two nodes above each other are one
 pub above_same : (rows : Rows) → IsTree rows → (a b : ℕ) → IsAbove rows a b → IsAbove rows b a → a ≡ b
-above_same rows tree a b h k =
-    let le : a ≤ b = above_le rows tree a b h in
-    let ge : b ≤ a = above_le rows tree b a k in
-    omega arith
+above_same rows tree a b h k = omega (arith, above_le rows tree a b h, above_le rows tree b a k)
 
 -- of two places on one way up, the farther is reached from the nearer
 pub above_linear : (rows : Rows) (m n v a b : ℕ) → up rows m v ≡ Some a → up rows n v ≡ Some b → m ≤ n → up rows (n - m) a ≡ Some b
-above_linear rows m n v a b h k le =
-    let e : (n - m) + m ≡ n = omega arith in
-    sym (rw e at (up_add rows m (n - m) v a h)) ∙ k
+above_linear rows m n v a b h k le = grind (arith, up_add)
 
 -- of two nodes above a third one, one is above the other
 pub above_either : (rows : Rows) (a b v : ℕ) → IsAbove rows a v → IsAbove rows b v → IsAbove rows a b ⊎ IsAbove rows b a

@@ -1,5 +1,5 @@
 -- The depth of a node is one more than its parent's.
-use Rattle.std.proofs.Common.{◌≡◌, ℕ, zero, suc, ◌+◌, ◌<◌, List, length, get_or, Option, Some, None, refl, sym, ap, arith}
+use Rattle.std.proofs.Common.{◌≡◌, ℕ, zero, suc, ◌+◌, ◌<◌, List, length, get_or, Option, Some, None, refl, ap, arith}
 use Rattle.grove_tree.specs.Trees.{Rows, IsTree, parent_of, depth_within, depth_of}
 use Rattle.grove_tree.specs.Depths.{AreDepths}
 use Rattle.grove_tree.proofs.Above.{parent_within, parent_lt}
@@ -19,9 +19,7 @@ depth_enough rows bound less (suc n) v lt under = depth_enough_by rows n v (pare
 depth_step_within : (rows : Rows) (bound : ℕ) → ((v p : ℕ) → v < bound → parent_of rows v ≡ Some p → p < v)
     → (v p n : ℕ) → v < bound → v < n → parent_of rows v ≡ Some p → depth_within rows n v ≡ suc (depth_within rows n p)
 depth_step_within rows bound less v p zero under lt h = absurd (omega arith)
-depth_step_within rows bound less v p (suc n) under lt h =
-    let low : p < v = less v p under h in
-    rw h (ap suc (sym (depth_enough rows bound less n p (omega arith) (omega arith))))
+depth_step_within rows bound less v p (suc n) under lt h = grind (arith, depth_enough)
 
 -- a row lies one deeper than its parent, where the parents up to it stand before their rows
 pub depth_step : (rows : Rows) (bound : ℕ) → ((v p : ℕ) → v < bound → parent_of rows v ≡ Some p → p < v)

@@ -1,7 +1,8 @@
 -- Rows have no fault exactly where they are the rows of a tree within the limits.
-use Rattle.std.proofs.Common.{◌≡◌, ◌≢◌, ℕ, zero, suc, ◌<◌, ◌≤◌, ◌==◌, Bool, true, false, not, if◌then◌else◌, [], length, Option, Some, None, refl, sym, ◌∙◌, ap, inl, inr, true≢false, arith, bytes_eq}
+use Rattle.std.proofs.Common.{◌≡◌, ◌≢◌, ℕ, zero, suc, ◌<◌, ◌≤◌, ◌==◌, Bool, true, false, not, if◌then◌else◌, [], length}
+use Rattle.std.proofs.Common.{Option, Some, None, refl, sym, ◌∙◌, ap, inl, inr, true≢false, arith}
 use Rattle.std.specs.Option.{is_none, is_some, option_and_then, option_map, unwrap_or, option_or}
-use Rattle.std.specs.Prelude.{nat_lt, nat_le}
+use Rattle.std.specs.Prelude.{nat_lt}
 use Rattle.std.proofs.lemmas.Option.{none-some, slice_get_past}
 use Rattle.std.proofs.lemmas.Bool.{cases_lt, cases_order, leb-true, ltb-false, le-ltb, le-leb, ne_eqb, and_parts, false_from_ne_true}
 use Rattle.std.proofs.lemmas.Slice.Eq.{bytes_eq-Decides}
@@ -14,7 +15,8 @@ use Rattle.grove_base.proofs.Counting.{any_false, any_none}
 use Rattle.grove_tree.proofs.Depths.{depth_root}
 use Rattle.grove_tree.proofs.Above.{parent_within}
 use Rattle.grove_tree.proofs.Tests.{is_at_true, is_at_from, is_above_from}
-use Rattle.grove_tree.proofs.RowTests.{placed_way, less_to}
+use Rattle.grove_tree.proofs.RowTests.{placed_way}
+use Rattle.grove_base.proofs.Lists.{none_found}
 
 -- a row that breaks no rule
 pub record IsRuled (rows : Rows) (row : ℕ) : Type 0 where
@@ -39,10 +41,7 @@ chain_none false b c d e f g h i j k = absurd (no_fault f k)
 
 -- a row without a fault breaks no rule
 pub row_ruled : (rows : Rows) (row : ℕ) → row_fault rows row ≡ None → IsRuled rows row
-row_ruled rows row h =
-    let (placed, shallow, named, alone, weighed) =
-    chain_none (is_well_placed rows row) (nat_lt 32 (depth_of rows row)) (is_well_named rows row) (any_below row (is_twin rows row)) (is_weight (weight_of rows row)) _ _ _ _ _ h in
-    record { placed = placed; shallow = shallow; named = named; alone = alone; weighed = weighed }
+row_ruled rows row h = grind (arith, chain_none)
 
 first_none : (rows : Rows) (row : ℕ) (o : Option TreeFault) → option_or o (row_fault rows row) ≡ None → (o ≡ None) × (row_fault rows row ≡ None)
 first_none rows row None h = (refl, h)
@@ -57,13 +56,6 @@ rows_ruled rows (suc n) h row lt =
       | inl lower ↦ rows_ruled rows n before row lower
       | inr last ↦ let e : row ≡ n = omega arith in rw e (row_ruled rows n here)
     ]
-
--- the parents of rows without a fault stand before them
-pub rows_less : (rows : Rows) (n : ℕ) → rows_fault rows n ≡ None → (v p : ℕ) → v < n → parent_of rows v ≡ Some p → p < v
-rows_less rows zero h v p lt own = absurd (omega arith)
-rows_less rows (suc n) h v p lt own =
-    let (before, here) = first_none rows n (rows_fault rows n) h in
-    less_to rows n (rows_less rows n before) (row_ruled rows n here).placed v p lt own
 
 -- the first fault of some rows is the first fault of more
 pub fault_stays : (rows : Rows) (n m : ℕ) (fault : TreeFault) → n ≤ m → rows_fault rows n ≡ Some fault → rows_fault rows m ≡ Some fault
@@ -94,10 +86,6 @@ on_the_way_parent : (rows : Rows) (before : ℕ) (o : Option ℕ) → is_on_the_
 on_the_way_parent rows before None h = absurd (cc)
 on_the_way_parent rows before (Some parent) h = (parent, refl)
 
-root_none : (o : Option ℕ) → is_none o ≡ true → o ≡ None
-root_none None h = refl
-root_none (Some p) h = absurd (cc)
-
 some_row : (n : ℕ) → (n == 0) ≡ false → 0 < n
 some_row zero h = absurd (true≢false h)
 some_row (suc n) h = omega arith
@@ -110,7 +98,7 @@ faultless_tree rows h =
     let lt : 0 < length rows = some_row (length rows) some in
     record {
       some = lt;
-      root = root_none (parent_of rows 0) (ruled 0 lt).placed;
+      root = none_found (parent_of rows 0) (ruled 0 lt).placed;
       preorder = λ node within.
           let (parent, own) = on_the_way_parent rows node (parent_of rows (suc node)) (ruled (suc node) within).placed in
           (parent, own, placed_way rows node parent (ruled (suc node) within).placed own);
@@ -125,10 +113,7 @@ past_weight rows node past = ap (λ (o : Option NodeRow). unwrap_or (option_map 
 -- a row that isn't alone has a twin
 twins : (rows : Rows) (first second parent : ℕ) → first < second → parent_of rows first ≡ Some parent → parent_of rows second ≡ Some parent
     → name_of rows first ≡ name_of rows second → is_twin rows second first ≡ true
-twins rows first second parent lt one two same =
-    let named : bytes_eq (name_of rows first) (name_of rows second) ≡ true = (bytes_eq-Decides (name_of rows first) (name_of rows second)).1 same in
-    let at = is_at_from parent (parent_of rows first) one in
-    rw (two, named, at) refl
+twins rows first second parent lt one two same = grind (arith, bytes_eq-Decides, is_at_from)
 
 not_twins : (rows : Rows) (n : ℕ) → ((row : ℕ) → row < n → IsRuled rows row) → n ≡ length rows → (first second parent : ℕ) → first < second
     → parent_of rows first ≡ Some parent → parent_of rows second ≡ Some parent → name_of rows first ≡ name_of rows second → ⊥
@@ -144,10 +129,7 @@ faultless_within rows h =
     let lt : 0 < length rows = some_row (length rows) some in
     record {
       few = ltb-false 4096 (length rows) few;
-      shallow = λ node. elim (cases_lt node (length rows)) [
-        | inl within ↦ ltb-false 32 (depth_of rows node) (ruled node within).shallow
-        | inr past ↦ let e : depth_of rows node ≡ 0 = past_depth rows node past in omega arith
-      ];
+      shallow = grind (arith, cases_lt, ltb-false, past_depth);
       unnamed_root = (bytes_eq-Decides (name_of rows 0) []).0 (ruled 0 lt).named;
       names = λ node within. (ruled (suc node) within).named;
       differ = λ first second parent one two same. elim (cases_order first second) [
@@ -157,15 +139,8 @@ faultless_within rows h =
           | inr after ↦ absurd (not_twins rows (length rows) ruled refl second first parent after two one (sym same))
         ]
       ];
-      weighty = λ node within.
-          let (low, high) = and_parts (nat_le 1 (weight_of rows node)) (nat_le (weight_of rows node) 1000) (ruled node within).weighed in
-          leb-true 1 (weight_of rows node) low;
-      light = λ node. elim (cases_lt node (length rows)) [
-        | inl within ↦
-            let (low, high) = and_parts (nat_le 1 (weight_of rows node)) (nat_le (weight_of rows node) 1000) (ruled node within).weighed in
-            leb-true (weight_of rows node) 1000 high
-        | inr past ↦ let e : weight_of rows node ≡ 0 = past_weight rows node past in omega arith
-      ];
+      weighty = grind (arith, and_parts, leb-true);
+      light = grind (arith, and_parts, cases_lt, leb-true, past_weight);
     }
 
 -- The other way round: the rows of a tree within the limits have no fault.
@@ -187,15 +162,10 @@ shared_parent (Some parent) other h = (parent, refl, is_at_true parent other h)
 
 -- no earlier row is a twin
 alone_fits : (rows : Rows) (row : ℕ) → IsWithinLimits rows → any_below row (is_twin rows row) ≡ false
-alone_fits rows row limits = any_none row (is_twin rows row) (λ other lt. false_from_ne_true (is_twin rows row other) (λ twin.
-    let (shared, named) = and_parts (share_parent (parent_of rows row) (parent_of rows other)) (bytes_eq (name_of rows other) (name_of rows row)) twin in
-    let (parent, own, others) = shared_parent (parent_of rows row) (parent_of rows other) shared in
-    let same : other ≡ row = limits.differ other row parent others own ((bytes_eq-Decides (name_of rows other) (name_of rows row)).0 named) in
-    absurd (omega arith)))
+alone_fits rows row limits = grind (arith, and_parts, any_none, bytes_eq-Decides, false_from_ne_true, shared_parent)
 
 weight_fits : (rows : Rows) (row : ℕ) → IsWithinLimits rows → row < length rows → is_weight (weight_of rows row) ≡ true
-weight_fits rows row limits within =
-    rw (le-leb 1 (weight_of rows row) (limits.weighty row within), le-leb (weight_of rows row) 1000 (limits.light row)) refl
+weight_fits rows row limits within = grind (arith, le-leb)
 
 no_row_fault : (a b c d e : Bool) (f g h i j : TreeFault) → a ≡ true → b ≡ false → c ≡ true → d ≡ false → e ≡ true
     → (if not a then Some f else if b then Some g else if not c then Some h else if d then Some i else if not e then Some j else None) ≡ None
@@ -203,9 +173,7 @@ no_row_fault a b c d e f g h i j placed shallow named alone weighed = rw (placed
 
 row_fits : (rows : Rows) (row : ℕ) → AreTreeRows rows → row < length rows → row_fault rows row ≡ None
 row_fits rows row (tree, limits) within =
-    no_row_fault (is_well_placed rows row) (nat_lt 32 (depth_of rows row)) (is_well_named rows row) (any_below row (is_twin rows row)) (is_weight (weight_of rows row)) _ _ _ _ _
-    (placed_fits rows row tree within) (le-ltb 32 (depth_of rows row) (limits.shallow row)) (named_fits rows row limits within) (alone_fits rows row limits)
-    (weight_fits rows row limits within)
+    grind (arith, alone_fits, le-ltb, named_fits, no_row_fault, placed_fits, weight_fits)
 
 rows_fit : (rows : Rows) (n : ℕ) → AreTreeRows rows → n ≤ length rows → rows_fault rows n ≡ None
 rows_fit rows zero fit le = refl
@@ -215,10 +183,7 @@ no_tree_fault : (a b : Bool) (o : Option TreeFault) → a ≡ false → b ≡ fa
 no_tree_fault a b o some few = rw (some, few) refl
 
 tree_faultless : (rows : Rows) → AreTreeRows rows → tree_fault_of rows ≡ None
-tree_faultless rows (tree, limits) =
-    let some : 0 < length rows = tree.some in
-    no_tree_fault (length rows == 0) (nat_lt 4096 (length rows)) (rows_fault rows (length rows)) (ne_eqb (length rows) 0 (λ e. omega arith)) (le-ltb 4096 (length rows) limits.few)
-    ∙ rows_fit rows (length rows) (tree, limits) (omega arith)
+tree_faultless rows (tree, limits) = grind (arith, le-ltb, ne_eqb, no_tree_fault, rows_fit)
 
 -- so rows with a fault are those of no tree
 pub faulty_refused : (rows : Rows) (fault : TreeFault) → tree_fault_of rows ≡ Some fault → ¬ AreTreeRows rows
@@ -237,8 +202,7 @@ no_rule_is_memory true true c d e row h = absurd (cc)
 no_rule_is_memory false b c d e row h = absurd (cc)
 
 no_first_is_memory : (rows : Rows) (row : ℕ) (o : Option TreeFault) → o ≢ Some Memory → option_or o (row_fault rows row) ≡ Some Memory → ⊥
-no_first_is_memory rows row None before h =
-    no_rule_is_memory (is_well_placed rows row) (nat_lt 32 (depth_of rows row)) (is_well_named rows row) (any_below row (is_twin rows row)) (is_weight (weight_of rows row)) row h
+no_first_is_memory rows row None before h = grind (arith, no_rule_is_memory)
 no_first_is_memory rows row (Some fault) before h = before h
 
 no_row_is_memory : (rows : Rows) (n : ℕ) → rows_fault rows n ≢ Some Memory

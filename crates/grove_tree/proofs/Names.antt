@@ -1,5 +1,5 @@
 -- The names above and at a node.
-use Rattle.std.proofs.Common.{◌≡◌, ℕ, zero, suc, ◌<◌, List, [], ◌∷◌, ◌++◌, length, Option, Some, None, refl, sym, ap, arith}
+use Rattle.std.proofs.Common.{◌≡◌, ℕ, zero, suc, ◌<◌, List, [], ◌∷◌, ◌++◌, length, Option, Some, None, refl, ap, arith}
 use Rattle.grove_tree.specs.Trees.{Rows, parent_of, name_of, IsTree}
 use Rattle.grove_tree.specs.Paths.{names_within}
 use Rattle.grove_tree.proofs.Above.{parent_lt, parent_within}
@@ -20,9 +20,7 @@ names_enough rows tree (suc n) v lt = names_enough_by rows n v (parent_of rows v
 
 names_step_within : (rows : Rows) → IsTree rows → (v p n : ℕ) → v < n → parent_of rows v ≡ Some p → names_within rows n v ≡ names_within rows n p ++ 47 ∷ name_of rows v
 names_step_within rows tree v p zero lt h = absurd (omega arith)
-names_step_within rows tree v p (suc n) lt h =
-    let low : p < v = parent_lt rows tree v p h in
-    rw h (ap (λ (names : List ℕ). names ++ 47 ∷ name_of rows v) (sym (names_enough rows tree n p (omega arith))))
+names_step_within rows tree v p (suc n) lt h = grind (arith, names_enough, parent_lt)
 
 -- a node's names are its parent's and its own
 pub names_step : (rows : Rows) → IsTree rows → (v p : ℕ) → parent_of rows v ≡ Some p → names_of rows v ≡ names_of rows p ++ 47 ∷ name_of rows v

@@ -1,17 +1,16 @@
 -- A row of a list as a tree sees it.
-use Rattle.std.proofs.Common.{◌≡◌, ℕ, ◌<◌, List, [], length, Option, Some, get_or, refl, sym, ◌∙◌, ap, subst, string_bytes}
+use Rattle.std.proofs.Common.{◌≡◌, ℕ, ◌<◌, List, [], length, Option, Some, get_or, ap, string_bytes, arith}
 use Rattle.std.specs.List.{slice_get}
 use Rattle.std.specs.Option.{option_map, option_and_then, unwrap_or}
 use Rattle.std.proofs.lemmas.Option.{slice_get-map, slice_get_read}
-use Rattle.grove_tree.specs.Trees.{Rows, NodeRow, parent_of, name_of, weight_of}
+use Rattle.grove_tree.specs.Trees.{Rows, NodeRow, parent_of, name_of}
 use Rattle.grove_tree.specs.declared.row.Row.{Row}
 use Rattle.grove_tree.specs.BuiltRows.{row_of, rows_of}
 use Rattle.grove_base.proofs.Lists.{map_length}
 
 -- a row of the list stands in the tree at its number
 pub own_row : (rows : List Row) (node : ℕ) (row : Row) → row ≡ get_or rows node row → node < length rows → slice_get (rows_of rows) node ≡ Some (row_of row)
-own_row rows node row is within =
-    slice_get-map row_of rows node ∙ ap (λ (o : Option Row). option_map row_of o) (slice_get_read rows (length rows) node row refl within is)
+own_row rows node row is within = grind (arith, slice_get-map, slice_get_read)
 
 -- with its parent
 pub own_parent : (rows : List Row) (node : ℕ) (row : Row) → row ≡ get_or rows node row → node < length rows → parent_of (rows_of rows) node ≡ row.parent
@@ -21,13 +20,7 @@ own_parent rows node row is within = ap (λ (o : Option NodeRow). option_and_the
 pub own_name : (rows : List Row) (node : ℕ) (row : Row) → row ≡ get_or rows node row → node < length rows → name_of (rows_of rows) node ≡ string_bytes row.name
 own_name rows node row is within = ap (λ (o : Option NodeRow). unwrap_or (option_map (λ (r : NodeRow). r.name) o) []) (own_row rows node row is within)
 
--- and with its weight
-pub own_weight : (rows : List Row) (node : ℕ) (row : Row) → row ≡ get_or rows node row → node < length rows → weight_of (rows_of rows) node ≡ row.weight
-own_weight rows node row is within = ap (λ (o : Option NodeRow). unwrap_or (option_map (λ (r : NodeRow). r.weight) o) 0) (own_row rows node row is within)
-
 -- the name of a tree's node is that of its row
 pub name_there : (rows : List Row) (tree : Rows) (node at : ℕ) (row : Row) → rows_of rows ≡ tree → at ≡ node → row ≡ get_or rows at row
     → node < length tree → name_of tree node ≡ string_bytes row.name
-name_there rows tree node at row view is read lt =
-    let within : node < length rows = subst (λ (n : ℕ). node < n) (ap (λ (r : Rows). length r) (sym view) ∙ map_length row_of rows) lt in
-    ap (λ (r : Rows). name_of r node) (sym view) ∙ own_name rows node row (rw is at read) within
+name_there rows tree node at row view is read lt = grind (arith, map_length, own_name)

@@ -1,5 +1,6 @@
 -- The way down a path: each node with the path is below the node that was reached.
-use Rattle.std.proofs.Common.{◌≡◌, ℕ, zero, suc, ◌<◌, ◌⊎◌, true, List, [], ◌∷◌, ◌++◌, length, Some, sym, ◌∙◌, ap, inl, inr, append_assoc, append-nil}
+use Rattle.std.proofs.Common.{◌≡◌, ℕ, zero, suc, ◌<◌, ◌⊎◌, true, List, [], ◌∷◌, ◌++◌, length, Some, sym, ◌∙◌, ap, inl}
+use Rattle.std.proofs.Common.{inr, append_assoc, append-nil, arith}
 use Rattle.std.specs.List.{list_all}
 use Rattle.std.proofs.lemmas.Option.{same_Some, none-some, option_and_then_some}
 use Rattle.std.proofs.lemmas.List.{append_cancel_left}
@@ -38,11 +39,7 @@ pub record IsFinding (rows : Rows) (path rest : List ℕ) (at : ℕ) : Type 0 wh
 
 -- the root
 pub finding_root : (rows : Rows) (path : List ℕ) → IsTree rows → IsFinding rows path path 0
-finding_root rows path tree = record {
-  within = tree.some;
-  spelled = ap (λ (names : List ℕ). names ++ path) (names_root rows 0 tree.root);
-  only = λ node within is. root_above rows tree node within;
-}
+finding_root rows path tree = grind (arith, names_root, root_above)
 
 no_nil : {a : ℕ} {xs : List ℕ} → [] ≡ a ∷ xs → ⊥
 no_nil h = cc
@@ -56,12 +53,7 @@ only_child : (rows : Rows) (path rest below : List ℕ) (at child : ℕ) → IsT
     → (node : ℕ) → node < length rows → names_of rows node ≡ path → IsAbove rows child node
 only_child rows path rest below at child tree limits finding some (own, goes) node within is = elim (way_first rows at node (finding.only node within is)) [
   | inl here ↦ absurd (some (not_empty_here (names_of rows at) rest (finding.spelled ∙ sym is ∙ ap (λ (v : ℕ). names_of rows v) (sym here))))
-  | inr (other, own2, way) ↦
-      let (more, goes2) = goes_below rows tree at other node rest own2 way (finding.spelled ∙ sym is) in
-      let same = cut_same (name_of rows child) (name_of rows other) below more (named rows tree limits child at own) (named rows tree limits other at own2)
-      goes.0 goes2.0 (tail_same 47 47 _ _ (sym goes.1 ∙ goes2.1)) in
-      let e : child ≡ other = limits.differ child other at own own2 same in
-      rw e way
+  | inr (other, own2, way) ↦ grind (arith, cut_same, goes_below, named, tail_same)
 ]
 
 -- on to the child
@@ -80,9 +72,7 @@ pub finding_stuck : (rows : Rows) (path rest : List ℕ) (at : ℕ) → IsTree r
     → (node : ℕ) → node < length rows → names_of rows node ≡ path → ⊥
 finding_stuck rows path rest at tree finding some none node within is = elim (way_first rows at node (finding.only node within is)) [
   | inl here ↦ some (not_empty_here (names_of rows at) rest (finding.spelled ∙ sym is ∙ ap (λ (v : ℕ). names_of rows v) (sym here)))
-  | inr (child, own, way) ↦
-      let (more, goes) = goes_below rows tree at child node rest own way (finding.spelled ∙ sym is) in
-      none child more (own, goes)
+  | inr (child, own, way) ↦ grind (arith, goes_below)
 ]
 
 -- where nothing is left of the path, the node has it, and no other node does
@@ -92,8 +82,6 @@ finding_end rows path at tree finding = (
   sym (append-nil (names_of rows at)) ∙ finding.spelled,
   λ node within is. elim (way_first rows at node (finding.only node within is)) [
     | inl here ↦ here
-    | inr (child, own, way) ↦
-        let (more, goes) = goes_below rows tree at child node [] own way (finding.spelled ∙ sym is) in
-        absurd (no_nil goes.1)
+    | inr (child, own, way) ↦ grind (arith, goes_below, no_nil)
   ],
 )

@@ -1,5 +1,6 @@
 -- Paths as names, each after a slash.
-use Rattle.std.proofs.Common.{◌≡◌, ℕ, zero, suc, ◌==◌, true, false, List, [], ◌∷◌, ◌++◌, length, take, drop, Some, refl, sym, ◌∙◌, ap, subst, true≢false, eqb-true, arith, bytes_eq, append_assoc, append-nil}
+use Rattle.std.proofs.Common.{◌≡◌, ℕ, zero, suc, ◌==◌, true, false, List, [], ◌∷◌, ◌++◌, length, take, drop, Some, refl}
+use Rattle.std.proofs.Common.{sym, ◌∙◌, ap, true≢false, eqb-true, arith, bytes_eq, append_assoc, append-nil}
 use Rattle.std.specs.List.{list_all}
 use Rattle.std.proofs.lemmas.Option.{same_Some, option_and_then_some}
 use Rattle.std.proofs.lemmas.List.{take-append-drop}
@@ -13,9 +14,7 @@ use Rattle.grove_tree.proofs.Names.{names_of, names_step}
 
 -- a path that begins with a name goes on with what is left
 pub goes_cut : (path name below rest : List ℕ) → path ≡ 47 ∷ below → bytes_eq (take (length name) below) name ≡ true → rest ≡ drop (length name) below → path ≡ 47 ∷ name ++ rest
-goes_cut path name below rest first same left =
-    let e : take (length name) below ≡ name = (bytes_eq-Decides (take (length name) below) name).0 same in
-    first ∙ ap (λ (bytes : List ℕ). 47 ∷ bytes) (sym (take-append-drop (length name) below) ∙ ap (λ (bytes : List ℕ). bytes ++ drop (length name) below) e ∙ ap (λ (bytes : List ℕ). name ++ bytes) (sym left))
+goes_cut path name below rest first same left = grind (arith, bytes_eq-Decides, take-append-drop)
 
 -- lists that are one have one rest
 pub tail_same : (a b : ℕ) (xs ys : List ℕ) → a ∷ xs ≡ b ∷ ys → xs ≡ ys
@@ -24,9 +23,7 @@ tail_same a b xs ys h = cc
 -- one that doesn't begin with the name doesn't go on after it
 pub goes_not : (path name below : List ℕ) (slash : ℕ) → path ≡ slash ∷ below → bytes_eq (take (length name) below) name ≡ false → (rest : List ℕ) → GoesOn path name rest → ⊥
 goes_not path name below slash first other rest (is_rest, is) =
-    let e : below ≡ name ++ rest = tail_same slash 47 _ _ (sym first ∙ is) in
-    let same : take (length name) below ≡ name = ap (λ (bytes : List ℕ). take (length name) bytes) e ∙ take-append_seam name rest in
-    true≢false (sym ((bytes_eq-Decides (take (length name) below) name).1 same) ∙ other)
+    grind (arith, bytes_eq-Decides, tail_same, take-append_seam)
 
 slash_no_byte : (byte : ℕ) → byte ≡ 47 → is_name_byte byte ≡ true → ⊥
 slash_no_byte byte e h = true≢false (sym h ∙ ap is_name_byte e)
@@ -34,24 +31,16 @@ slash_no_byte byte e h = true≢false (sym h ∙ ap is_name_byte e)
 -- two names before a rest are one
 pub cut_same : (a b m n : List ℕ) → list_all is_name_byte a ≡ true → list_all is_name_byte b ≡ true → IsRest m → IsRest n → a ++ m ≡ b ++ n → a ≡ b
 cut_same [] [] m n ha hb hm hn e = refl
-cut_same [] (y ∷ b) m n ha hb hm hn e =
-    let (here, there) = and_parts (is_name_byte y) (list_all is_name_byte b) hb in
-    absurd (slash_no_byte y (subst (λ (bytes : List ℕ). IsRest bytes) e hm) here)
-cut_same (x ∷ a) [] m n ha hb hm hn e =
-    let (here, there) = and_parts (is_name_byte x) (list_all is_name_byte a) ha in
-    absurd (slash_no_byte x (subst (λ (bytes : List ℕ). IsRest bytes) (sym e) hn) here)
+cut_same [] (y ∷ b) m n ha hb hm hn e = grind (arith, and_parts, slash_no_byte)
+cut_same (x ∷ a) [] m n ha hb hm hn e = grind (arith, and_parts, slash_no_byte)
 cut_same (x ∷ a) (y ∷ b) m n ha hb hm hn e =
     let (here, there) = and_parts (is_name_byte x) (list_all is_name_byte a) ha in
     let (here2, there2) = and_parts (is_name_byte y) (list_all is_name_byte b) hb in
-    let same : x ≡ y = cc in
-    cc (same, cut_same a b m n there there2 hm hn (tail_same x y (a ++ m) (b ++ n) e))
+    grind (arith, tail_same, cut_same a b m n there there2 hm hn (tail_same x y (a ++ m) (b ++ n) e))
 
 -- a name has no slash
 pub name_bytes : (name : List ℕ) → is_name name ≡ true → list_all is_name_byte name ≡ true
-name_bytes name h =
-    let (some, more) = and_parts _ _ h in
-    let (few, bytes) = and_parts _ _ more in
-    bytes
+name_bytes name h = grind (arith, and_parts)
 
 -- the names of a node begin with those of each node above it
 pub names_above_by : (rows : Rows) → IsTree rows → (n high low : ℕ) → up rows n low ≡ Some high → (rest : List ℕ) × IsRest rest × (names_of rows low ≡ names_of rows high ++ rest)

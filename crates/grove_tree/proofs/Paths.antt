@@ -18,8 +18,7 @@ pub find_none : (n : ℕ) (test : ℕ → Bool) → ((k : ℕ) → k < n → tes
 find_none zero test none = refl
 find_none (suc n) test none =
     let before = find_none n test (λ k lt. none k (omega arith)) in
-    let here = none n (omega arith) in
-    find-append test (numbers_below n) (n ∷ []) ∙ rw (before, here) refl
+    grind (arith, find-append)
 
 -- one number alone passes
 pub find_one : (n : ℕ) (test : ℕ → Bool) (one : ℕ) → one < n → test one ≡ true → ((k : ℕ) → k < n → test k ≡ true → one ≡ k) → find test (numbers_below n) ≡ Some one
@@ -28,24 +27,13 @@ find_one (suc n) test one lt here only = elim (cases_lt one n) [
   | inl before ↦
       find-append test (numbers_below n) (n ∷ [])
       ∙ ap (λ (o : Option ℕ). option_or o (find test (n ∷ []))) (find_one n test one before here (λ k less passes. only k (omega arith) passes))
-  | inr past ↦
-      let e : one ≡ n = omega arith in
-      let none = find_none n test (λ k less. elim (cases_Bool (test k)) [
-        | inl passes ↦ let same : one ≡ k = only k (omega arith) passes in absurd (omega arith)
-        | inr fails ↦ fails
-      ]) in
-      let last : test n ≡ true = rw e at here in
-      find-append test (numbers_below n) (n ∷ []) ∙ rw (none, last, e) refl
+  | inr past ↦ grind (arith, cases_Bool, find-append, find_none)
 ]
 
 -- the node found is the first with the path, where it has it and no other node does
 pub node_found : (rows : Rows) (path : List ℕ) (result : Option ℕ) → IfSome result (λ node. (node < length rows) × (path_of rows node ≡ path))
     → ((node : ℕ) → node < length rows → path_of rows node ≡ path → result ≡ Some node) → result ≡ node_at rows path
-node_found rows path None found only =
-    sym (find_none (length rows) (λ node. bytes_eq (path_of rows node) path) (λ k lt. elim (cases_Bool (bytes_eq (path_of rows k) path)) [
-      | inl same ↦ absurd (none-some k (only k lt ((bytes_eq-Decides (path_of rows k) path).0 same)))
-      | inr other ↦ other
-    ]))
+node_found rows path None found only = grind (arith, bytes_eq-Decides, cases_Bool, find_none, none-some)
 node_found rows path (Some node) (within, is) only =
     sym (find_one (length rows) (λ node. bytes_eq (path_of rows node) path) node within ((bytes_eq-Decides (path_of rows node) path).1 is)
     (λ k lt same. same_Some node k (only k lt ((bytes_eq-Decides (path_of rows k) path).0 same))))
@@ -56,10 +44,9 @@ no_slash_by rows tree limits node None own is = absurd (cc (names_root rows node
 no_slash_by rows tree limits zero (Some parent) own is = none-some parent (sym tree.root ∙ own)
 no_slash_by rows tree limits (suc node) (Some parent) own is =
     let (some, more) = and_parts _ _ (limits.names node (parent_within rows (suc node) parent own)) in
-    let some2 : 0 < length (name_of rows (suc node)) = ltb-true 0 (length (name_of rows (suc node))) some in
     let long = ap (λ (bytes : List ℕ). length bytes) (sym (names_step rows tree (suc node) parent own) ∙ is) in
     let joined = length-append (names_of rows parent) (47 ∷ name_of rows (suc node)) in
-    absurd (omega arith)
+    absurd (omega (arith, ltb-true 0 (length (name_of rows (suc node))) some))
 
 -- and so none has a slash alone for its names
 pub no_slash : (rows : Rows) → IsTree rows → IsWithinLimits rows → (node : ℕ) → names_of rows node ≡ 47 ∷ [] → ⊥

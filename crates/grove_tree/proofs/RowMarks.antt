@@ -1,18 +1,17 @@
 -- Setting the bit of a mark, and what a bit that isn't set says of a row.
-use Rattle.std.proofs.Common.{◌≡◌, ℕ, ◌*◌, ◌/◌, ◌%◌, ◌^◌, ◌<◌, true, false, List, length, Option, sym, ◌∙◌, ap}
-use Rattle.std.proofs.Common.{subst, inl, inr, arith, get_or, set, bytes_eq, get_or-set_same, get_or-set_other}
+use Rattle.std.proofs.Common.{◌≡◌, ℕ, ◌*◌, ◌/◌, ◌%◌, ◌^◌, ◌<◌, true, false, List, length, ◌∙◌, ap}
+use Rattle.std.proofs.Common.{inl, inr, arith, get_or, set, get_or-set_same, get_or-set_other}
 use Rattle.std.specs.Int.{bit_at, w64}
 use Rattle.std.specs.Int.RustNames.{bit_or}
-use Rattle.std.specs.Option.{unwrap_or}
 use Rattle.std.proofs.lemmas.Bool.{cases_eq, and_parts, false_from_ne_true}
 use Rattle.std.proofs.lemmas.Nat.{mod_below}
 use Rattle.std.proofs.lemmas.Nat.Bits.{bit_at_set_same, bit_at_set_other}
 use Rattle.std.proofs.lemmas.Slice.Eq.{bytes_eq-Decides}
 use Rattle.grove_base.specs.Numbers.{any_below}
 use Rattle.grove_base.proofs.Counting.{any_none}
-use Rattle.grove_tree.specs.Trees.{Rows, parent_of, name_of}
-use Rattle.grove_tree.specs.Rules.{is_twin, share_parent}
-use Rattle.grove_tree.specs.RowMarks.{mark_below, row_mark, IsSet, AreNoted}
+use Rattle.grove_tree.specs.Trees.{Rows}
+use Rattle.grove_tree.specs.Rules.{is_twin}
+use Rattle.grove_tree.specs.RowMarks.{row_mark, IsSet, AreNoted}
 use Rattle.grove_tree.proofs.FaultlessRows.{shared_parent}
 
 -- a word with the bit of a mark set
@@ -46,32 +45,13 @@ set_own words mark lt =
 -- and those that were there stay
 pub set_others : (words : List ℕ) (mark other : ℕ) → mark / 64 < length words → IsSet words other
     → IsSet (words_with words mark) other
-set_others words mark other lt is = elim (cases_eq (other / 64) (mark / 64)) [
-  | inl e ↦
-      ap (λ (place : ℕ). bit_at (get_or (words_with words mark) place 0) (other % 64)) e
-      ∙ ap (λ (word : ℕ). bit_at word (other % 64)) (own_word words mark lt)
-      ∙ stays_in_word (get_or words (mark / 64) 0) mark (other % 64)
-      (subst (λ (place : ℕ). bit_at (get_or words place 0) (other % 64) ≡ 1) e is)
-  | inr ne ↦
-      ap (λ (word : ℕ). bit_at word (other % 64))
-      (get_or-set_other words (mark / 64) (other / 64) (word_with (get_or words (mark / 64) 0) mark) 0 ne)
-      ∙ is
-]
+set_others words mark other lt is = grind (arith, cases_eq, get_or-set_other, own_word, stays_in_word)
 
 -- twins have the same mark
 twin_marks : (rows : Rows) (row other : ℕ) → is_twin rows row other ≡ true → row_mark rows other ≡ row_mark rows row
-twin_marks rows row other twin =
-    let (shared, named) = and_parts (share_parent (parent_of rows row) (parent_of rows other))
-    (bytes_eq (name_of rows other) (name_of rows row)) twin in
-    let (parent, own, others) = shared_parent (parent_of rows row) (parent_of rows other) shared in
-    let same : name_of rows other ≡ name_of rows row =
-    (bytes_eq-Decides (name_of rows other) (name_of rows row)).0 named in
-    ap (λ (o : Option ℕ). mark_below (unwrap_or o 0) (name_of rows other)) (others ∙ sym own)
-    ∙ ap (λ (name : List ℕ). mark_below (unwrap_or (parent_of rows row) 0) name) same
+twin_marks rows row other twin = grind (arith, and_parts, bytes_eq-Decides, shared_parent)
 
 -- so a row whose mark isn't there has no twin before it
 pub unset_alone : (words : List ℕ) (rows : Rows) (row : ℕ) → AreNoted words rows row
     → (IsSet words (row_mark rows row) → ⊥) → any_below row (is_twin rows row) ≡ false
-unset_alone words rows row noted unset =
-    any_none row (is_twin rows row) (λ other lt. false_from_ne_true (is_twin rows row other) (λ twin.
-    unset (subst (λ (mark : ℕ). IsSet words mark) (twin_marks rows row other twin) (noted other lt))))
+unset_alone words rows row noted unset = grind (arith, any_none, false_from_ne_true, twin_marks)

@@ -1,5 +1,6 @@
 -- The rules of one row, as tests and as facts.
-use Rattle.std.proofs.Common.{◌≡◌, ℕ, zero, suc, ◌+◌, ◌-◌, ◌<◌, ◌≤◌, ◌↔◌, Bool, true, ◌&&◌, IsTrue, List, length, Option, Some, None, refl, subst, inl, inr, get_or, arith, bytes_eq, string_bytes}
+use Rattle.std.proofs.Common.{◌≡◌, ℕ, zero, suc, ◌+◌, ◌-◌, ◌<◌, ◌≤◌, ◌↔◌, Bool, true, ◌&&◌, IsTrue, List, length}
+use Rattle.std.proofs.Common.{Option, Some, None, subst, get_or, arith, bytes_eq, string_bytes}
 use Rattle.std.proofs.lemmas.Option.{none-some, same_Some}
 use Rattle.std.proofs.lemmas.Bool.{cases_lt}
 use Rattle.std.specs.Option.{is_none}
@@ -24,11 +25,7 @@ pub placed_test : (rows : Rows) (row parent : ℕ) (test : Bool) → 0 < row →
     → ((v p : ℕ) → v < row → parent_of rows v ≡ Some p → p < v)
     → (IsTrue test ↔ IsAbove rows parent (row - 1)) → test ≡ is_well_placed rows row
 placed_test rows zero parent test some own less told = absurd (omega arith)
-placed_test rows (suc before) parent test some own less told =
-    let e : suc before - 1 ≡ before = omega arith in
-    rw own (same_tests test (is_above rows parent before)
-    (λ h. is_above_within rows (suc before) less parent before (omega arith) (rw e at (told.0 h)))
-    (λ h. told.1 (rw e (is_above_true rows parent before h))))
+placed_test rows (suc before) parent test some own less told = grind (arith, is_above_true, is_above_within, same_tests)
 
 on_the_way : (rows : Rows) (before parent : ℕ) (o : Option ℕ) → o ≡ Some parent → is_on_the_way rows before o ≡ true → is_above rows parent before ≡ true
 on_the_way rows before parent None e h = absurd (none-some parent e)
@@ -48,20 +45,15 @@ pub placed_less : (rows : Rows) (row : ℕ) → ((v p : ℕ) → v < row → par
 placed_less rows zero less h parent own = absurd (no_parent (parent_of rows 0) parent own h)
 placed_less rows (suc before) less h parent own =
     let way : IsAbove rows parent before = placed_way rows before parent h own in
-    let le : parent + way.0 ≤ before = up_le_from rows (suc before) less way.0 before parent (omega arith) way.1 in
-    omega arith
+    omega (arith, up_le_from rows (suc before) less way.0 before parent (omega arith) way.1)
 
 -- the same up to a row
 pub less_to : (rows : Rows) (row : ℕ) → ((v p : ℕ) → v < row → parent_of rows v ≡ Some p → p < v)
     → is_well_placed rows row ≡ true → (v p : ℕ) → v < suc row → parent_of rows v ≡ Some p → p < v
-less_to rows row less h v p lt own = elim (cases_lt v row) [
-  | inl before ↦ less v p before own
-  | inr here ↦ let e : v ≡ row = omega arith in rw e (placed_less rows row less h p (rw e at own))
-]
+less_to rows row less h v p lt own = grind (arith, cases_lt, placed_less)
 
 -- twins as the list has them
 pub twin_test : (rows : List Row) (row other : ℕ) (first second : Row) → first ≡ get_or rows row first → row < length rows
     → second ≡ get_or rows other second → other < length rows
     → is_twin (rows_of rows) row other ≡ (share_parent first.parent second.parent && bytes_eq (string_bytes second.name) (string_bytes first.name))
-twin_test rows row other first second is within is2 within2 =
-    rw (own_parent rows row first is within, own_parent rows other second is2 within2, own_name rows row first is within, own_name rows other second is2 within2) refl
+twin_test rows row other first second is within is2 within2 = grind (arith, own_name, own_parent)

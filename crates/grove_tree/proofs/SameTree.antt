@@ -1,12 +1,13 @@
 -- The rows of a tree whose nodes get other weights are those of a tree.
-use Rattle.std.proofs.Common.{◌≡◌, ℕ, zero, suc, add-zero, zero-add, ◌+◌, ◌<◌, ◌≤◌, ◌==◌, not, Bool, true, false, cond, List, [], ◌∷◌, length, Option, Some, None, refl, sym, ◌∙◌, ap, inl, inr, arith}
+use Rattle.std.proofs.Common.{◌≡◌, ℕ, zero, suc, add-zero, zero-add, ◌+◌, ◌<◌, ◌≤◌, ◌==◌, not, Bool, true, false, cond}
+use Rattle.std.proofs.Common.{List, [], ◌∷◌, length, Option, Some, None, refl, ◌∙◌, ap, arith}
 use Rattle.std.specs.Option.{option_and_then}
 use Rattle.std.proofs.lemmas.Bool.{cases_lt}
 use Rattle.grove_base.specs.Numbers.{count_below}
 use Rattle.grove_tree.specs.Trees.{Rows, parent_of, name_of, weight_of, depth_of, depth_within, one_more, up, IsTree}
 use Rattle.grove_tree.specs.Rules.{IsWithinLimits, AreTreeRows}
 use Rattle.grove_tree.specs.declared.row.Row.{Row}
-use Rattle.grove_tree.specs.BuiltRows.{row_of, rows_of}
+use Rattle.grove_tree.specs.BuiltRows.{rows_of}
 use Rattle.grove_tree.specs.Depths.{AreDepths}
 use Rattle.grove_tree.specs.Weights.{weighed_from, with_weights}
 use Rattle.grove_tree.specs.WeighedRows.{changes_from}
@@ -28,8 +29,7 @@ next_alike f g same (Some node) = same node
 
 up_alike : (rows others : Rows) → AreAlike rows others → (n node : ℕ) → up others n node ≡ up rows n node
 up_alike rows others alike zero node = refl
-up_alike rows others alike (suc n) node =
-    ap (λ (o : Option ℕ). option_and_then (parent_of others) o) (up_alike rows others alike n node) ∙ next_alike (parent_of others) (parent_of rows) alike.parents (up rows n node)
+up_alike rows others alike (suc n) node = grind (arith, next_alike, up_alike rows others alike n node)
 
 one_more_alike : (f g : ℕ → ℕ) → ((node : ℕ) → f node ≡ g node) → (o : Option ℕ) → one_more f o ≡ one_more g o
 one_more_alike f g same None = refl
@@ -37,9 +37,7 @@ one_more_alike f g same (Some parent) = ap suc (same parent)
 
 depth_alike : (rows others : Rows) → AreAlike rows others → (n node : ℕ) → depth_within others n node ≡ depth_within rows n node
 depth_alike rows others alike zero node = refl
-depth_alike rows others alike (suc n) node =
-    ap (λ (o : Option ℕ). one_more (depth_within others n) o) (alike.parents node)
-    ∙ one_more_alike (depth_within others n) (depth_within rows n) (depth_alike rows others alike n) (parent_of rows node)
+depth_alike rows others alike (suc n) node = grind (arith, one_more_alike, depth_alike rows others alike n)
 
 -- the nodes of such rows are as deep
 pub depth_of_alike : (rows others : Rows) → AreAlike rows others → (node : ℕ) → depth_of others node ≡ depth_of rows node
@@ -67,17 +65,12 @@ limits_alike rows others alike weights none limits =
     record {
       few = omega arith;
       shallow = λ node.
-          let same : depth_of others node ≡ depth_of rows node = depth_of_alike rows others alike node in
-          let low : depth_of rows node ≤ 32 = limits.shallow node in omega arith;
+          omega (arith, depth_of_alike rows others alike node, limits.shallow node);
       unnamed_root = alike.names 0 ∙ limits.unnamed_root;
       names = λ node within. rw (alike.names (suc node)) (limits.names node (omega arith));
-      differ = λ first second parent one two same.
-          limits.differ first second parent (sym (alike.parents first) ∙ one) (sym (alike.parents second) ∙ two) (sym (alike.names first) ∙ same ∙ alike.names second);
+      differ = grind (arith);
       weighty = λ node within. let (low, high) = weights node within in low;
-      light = λ node. elim (cases_lt node (length others)) [
-        | inl within ↦ let (low, high) = weights node within in high
-        | inr past ↦ let e = none node past in omega arith
-      ];
+      light = grind (arith, cases_lt);
     }
 
 -- Weights that a rule gives
@@ -111,15 +104,7 @@ alike_weighed f rows = record { long = length-weighed_from f 0 rows; parents = p
 pub limits_weighed : (f : ℕ → ℕ → ℕ) (rows : Rows) → ((node : ℕ) → node < length rows → (1 ≤ f node (weight_of rows node)) × (f node (weight_of rows node) ≤ 1000))
     → IsWithinLimits rows → IsWithinLimits (with_weights f rows)
 limits_weighed f rows weights limits =
-    let long : length (with_weights f rows) ≡ length rows = length-weighed_from f 0 rows in
-    limits_alike rows (with_weights f rows) (alike_weighed f rows)
-    (λ node within.
-    let lt : node < length rows = omega arith in
-    let is = weight_of-with_weights f rows node lt in
-    let (low, high) = weights node lt in
-    (omega arith, omega arith))
-    (λ node past. weight_of-past f 0 rows node (omega arith))
-    limits
+    grind (arith, alike_weighed, length-weighed_from, limits_alike, weight_of-past, weight_of-with_weights)
 
 flipped : (b : Bool) → ◌≡◌ {A = ℕ} (cond b 0 1) (cond (not b) 1 0)
 flipped true = refl
@@ -152,10 +137,4 @@ weighed_tree f rows after is weights (tree, limits) =
 -- and their nodes are as deep
 pub weighed_depths : (f : ℕ → ℕ → ℕ) (rows after : List Row) (depths : List ℕ) → rows_of after ≡ with_weights f (rows_of rows)
     → AreDepths (rows_of rows) (length rows) depths → AreDepths (rows_of after) (length after) depths
-weighed_depths f rows after depths is (long, each) =
-    let alike = alike_weighed f (rows_of rows) in
-    let same : length after ≡ length rows =
-    sym (map_length row_of after) ∙ ap (λ (r : Rows). length r) is ∙ alike.long ∙ map_length row_of rows in (
-      long ∙ sym same,
-      λ node other lt. each node other (omega arith) ∙ rw is (sym (depth_of_alike (rows_of rows) (with_weights f (rows_of rows)) alike node)),
-    )
+weighed_depths f rows after depths is (long, each) = grind (arith, alike_weighed, depth_of_alike, map_length)

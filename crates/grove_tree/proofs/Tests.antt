@@ -1,5 +1,5 @@
 -- The tests of a tree and what they say.
-use Rattle.std.proofs.Common.{◌≡◌, ℕ, suc, ◌+◌, ◌<◌, ◌≤◌, true, Option, Some, None, refl, ap, arith}
+use Rattle.std.proofs.Common.{◌≡◌, ℕ, suc, ◌+◌, ◌≤◌, true, Option, Some, None, refl, ap, arith}
 use Rattle.std.proofs.lemmas.Bool.{eqb-true, eq-eqb}
 use Rattle.grove_tree.specs.Trees.{Rows, up, IsAbove, IsTree, is_at, is_above}
 use Rattle.grove_base.proofs.Counting.{any_true, any_from}
@@ -16,9 +16,7 @@ is_at_from v o h = rw h (eq-eqb v v refl)
 
 -- the test of being above says that a node is above another
 pub is_above_true : (rows : Rows) (high low : ℕ) → is_above rows high low ≡ true → IsAbove rows high low
-is_above_true rows high low h =
-    let found : (n : ℕ) × (n < suc low) × (is_at high (up rows n low) ≡ true) = any_true (suc low) (λ n. is_at high (up rows n low)) h in
-    (found.0, is_at_true high (up rows found.0 low) found.2)
+is_above_true rows high low h = grind (arith, any_true, is_at_true)
 
 -- and in a tree what is above passes it
 pub is_above_from : (rows : Rows) (high low : ℕ) → IsTree rows → IsAbove rows high low → is_above rows high low ≡ true

@@ -24,10 +24,7 @@ cut_last [] [] a b ha hb e = (refl, tail_same 47 47 a b e)
 cut_last [] (y ∷ other) a b ha hb e = absurd (no_slash_within other b (subst (λ (bytes : List ℕ). list_all is_name_byte bytes ≡ true) (tail_same 47 y a (other ++ 47 ∷ b) e) ha))
 cut_last (x ∷ front) [] a b ha hb e = absurd (no_slash_within front a (subst (λ (bytes : List ℕ). list_all is_name_byte bytes ≡ true) (sym (tail_same x 47 (front ++ 47 ∷ a) b e)) hb))
 cut_last (x ∷ front) (y ∷ other) a b ha hb e =
-    let rest : (front ≡ other) × (a ≡ b) = cut_last front other a b ha hb (tail_same x y (front ++ 47 ∷ a) (other ++ 47 ∷ b) e) in
-    let here : x ≡ y = cc in
-    let there : front ≡ other = rest.0 in
-    (cc (here, there), rest.1)
+    grind (arith, tail_same, cut_last front other a b ha hb (tail_same x y (front ++ 47 ∷ a) (other ++ 47 ∷ b) e))
 
 -- a text that ends in a slash and a name is not empty
 not_empty : (front name : List ℕ) → front ++ 47 ∷ name ≡ [] → ⊥

@@ -1,8 +1,7 @@
 -- Rows whose nodes get the weights that a rule gives.
-use Rattle.std.proofs.Common.{◌≡◌, ℕ, zero, suc, add-zero, ◌+◌, ◌≤◌, ◌==◌, Bool, true, false, cond, List, [], ◌∷◌, ◌++◌, length, Option, refl, sym, ◌∙◌, ap, subst, arith, length-append}
-use Rattle.std.specs.Option.{option_map, unwrap_or}
-use Rattle.std.proofs.lemmas.Bool.{cond-true, cond-false, eq-eqb, ne_eqb}
-use Rattle.grove_tree.specs.Trees.{Rows, NodeRow, parent_of, weight_of}
+use Rattle.std.proofs.Common.{◌≡◌, ℕ, zero, suc, add-zero, ◌+◌, ◌≤◌, ◌==◌, Bool, true, false, cond, List, [], ◌∷◌, ◌++◌}
+use Rattle.std.proofs.Common.{length, refl, sym, ◌∙◌, ap, subst, arith, length-append}
+use Rattle.grove_tree.specs.Trees.{Rows, parent_of}
 use Rattle.grove_tree.specs.declared.row.Row.{Row}
 use Rattle.grove_tree.specs.BuiltRows.{row_of, rows_of}
 use Rattle.grove_tree.specs.Weights.{weighed_from}
@@ -23,18 +22,12 @@ next_place node n = omega arith
 -- joined rows get their weights part by part
 pub weighed_from-append : (f : ℕ → ℕ → ℕ) (node : ℕ) (xs ys : Rows) → weighed_from f node (xs ++ ys) ≡ weighed_from f node xs ++ weighed_from f (node + length xs) ys
 weighed_from-append f node [] ys = rw add-zero refl
-weighed_from-append f node (row ∷ xs) ys =
-    ap (λ (rows : Rows). record { parent = row.parent; name = row.name; weight = f node row.weight } ∷ rows)
-    (weighed_from-append f (suc node) xs ys
-    ∙ ap (λ (n : ℕ). weighed_from f (suc node) xs ++ weighed_from f n ys) (next_place node (length xs)))
+weighed_from-append f node (row ∷ xs) ys = grind (arith, next_place, weighed_from-append f (suc node) xs ys)
 
 -- and their changes add up
 pub changes_from-append : (f : ℕ → ℕ → ℕ) (node : ℕ) (xs ys : Rows) → changes_from f node (xs ++ ys) ≡ changes_from f node xs + changes_from f (node + length xs) ys
 changes_from-append f node [] ys = rw add-zero (omega arith)
-changes_from-append f node (row ∷ xs) ys =
-    let rest : changes_from f (suc node) (xs ++ ys) ≡ changes_from f (suc node) xs + changes_from f (node + suc (length xs)) ys =
-    changes_from-append f (suc node) xs ys ∙ ap (λ (n : ℕ). changes_from f (suc node) xs + changes_from f n ys) (next_place node (length xs)) in
-    omega arith
+changes_from-append f node (row ∷ xs) ys = grind (arith, next_place, changes_from-append f (suc node) xs ys)
 
 -- the parents stay
 pub parent_of-weighed_from : (f : ℕ → ℕ → ℕ) (node : ℕ) (rows : Rows) (place : ℕ) → parent_of (weighed_from f node rows) place ≡ parent_of rows place
@@ -45,17 +38,10 @@ parent_of-weighed_from f node (row ∷ rows) (suc place) = parent_of-weighed_fro
 -- What the rule takes
 
 taken_front : (takes : ℕ → ℕ → Type 0) (node : ℕ) (xs ys : Rows) → AreTaken takes node (xs ++ ys) → AreTaken takes node xs
-taken_front takes node xs ys all place lt =
-    let long = length-append xs ys in
-    subst (λ (row : Option NodeRow). takes (node + place) (unwrap_or (option_map (λ (r : NodeRow). r.weight) row) 0)) (get_append_left xs ys place lt) (all place (omega arith))
+taken_front takes node xs ys all place lt = grind (arith, get_append_left, length-append)
 
 taken_back : (takes : ℕ → ℕ → Type 0) (node : ℕ) (xs ys : Rows) → AreTaken takes node (xs ++ ys) → AreTaken takes (node + length xs) ys
-taken_back takes node xs ys all place lt =
-    let long = length-append xs ys in
-    let e : node + (length xs + place) ≡ node + length xs + place = omega arith in
-    let there : takes (node + (length xs + place)) (weight_of ys place) =
-    subst (λ (row : Option NodeRow). takes (node + (length xs + place)) (unwrap_or (option_map (λ (r : NodeRow). r.weight) row) 0)) (get_append_at xs ys place) (all (length xs + place) (omega arith)) in
-    subst (λ (n : ℕ). takes n (weight_of ys place)) e there
+taken_back takes node xs ys all place lt = grind (arith, get_append_at, length-append)
 
 -- Halves
 
@@ -75,10 +61,7 @@ halves_taken takes node half rows xs ys e long all =
 pub halves_weighed : (f : ℕ → ℕ → ℕ) (node half : ℕ) (rows xs ys vs ws : List Row) → rows ≡ xs ++ ys → length xs ≡ half → rows_of vs ≡ weighed_from f node (rows_of xs)
     → rows_of ws ≡ weighed_from f (node + half) (rows_of ys) → rows_of (vs ++ ws) ≡ weighed_from f node (rows_of rows)
 halves_weighed f node half rows xs ys vs ws e long first second =
-    let back : rows_of ws ≡ weighed_from f (node + length (rows_of xs)) (rows_of ys) =
-    second ∙ ap (λ (n : ℕ). weighed_from f (node + n) (rows_of ys)) (sym (map_length row_of xs ∙ long)) in
-    map-append row_of vs ws ∙ ap (λ (r : Rows). r ++ rows_of ws) first ∙ ap (λ (r : Rows). weighed_from f node (rows_of xs) ++ r) back
-    ∙ sym (weighed_from-append f node (rows_of xs) (rows_of ys)) ∙ ap (weighed_from f node) (sym (rows_halves rows xs ys e))
+    grind (arith, map-append, map_length, rows_halves, weighed_from-append)
 
 -- and the changes of both are all changes
 pub halves_counted : (f : ℕ → ℕ → ℕ) (node half : ℕ) (rows xs ys : List Row) (m n : ℕ) → rows ≡ xs ++ ys → length xs ≡ half → m ≡ changes_from f node (rows_of xs)
@@ -100,11 +83,3 @@ changes_from-le f node (row ∷ rows) = let rest = changes_from-le f (suc node) 
 -- and no more weights of nodes than there are nodes
 pub changes_within : (f : ℕ → ℕ → ℕ) (node : ℕ) (rows : List Row) → changes_from f node (rows_of rows) ≤ length rows
 changes_within f node rows = rw (← map_length row_of rows) (changes_from-le f node (rows_of rows))
-
--- a weight that stays adds nothing to the count, and one that changes adds one
-pub counts_none : (given new old : ℕ) → new ≡ given → new ≡ old → ◌≡◌ {A = ℕ} (cond (given == old) 0 1) 0
-counts_none given new old is same = cond-true (given == old) 0 1 (eq-eqb given old (sym is ∙ same))
-
--- and one that changes adds one
-pub counts_one : (given new old : ℕ) → new ≡ given → (new ≡ old → ⊥) → ◌≡◌ {A = ℕ} (cond (given == old) 0 1) 1
-counts_one given new old is other = cond-false (given == old) 0 1 (ne_eqb given old (λ same. other (is ∙ same)))

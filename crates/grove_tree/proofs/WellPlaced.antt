@@ -1,5 +1,5 @@
 -- Well placed rows, one after the other.
-use Rattle.std.proofs.Common.{◌≡◌, ℕ, zero, suc, ◌<◌, true, Some, inl, inr, arith}
+use Rattle.std.proofs.Common.{◌≡◌, ℕ, zero, suc, ◌<◌, true, Some, arith}
 use Rattle.std.proofs.lemmas.Bool.{cases_lt}
 use Rattle.grove_tree.specs.Trees.{Rows, parent_of}
 use Rattle.grove_tree.specs.Rules.{is_well_placed}
@@ -9,10 +9,7 @@ use Rattle.grove_tree.proofs.RowTests.{less_to}
 -- one more row that is well placed
 pub placed_next : (rows : Rows) (n : ℕ) → AreWellPlaced rows n → is_well_placed rows n ≡ true
     → AreWellPlaced rows (suc n)
-placed_next rows n placed here row lt = elim (cases_lt row n) [
-  | inl before ↦ placed row before
-  | inr last ↦ let e : row ≡ n = omega arith in rw e here
-]
+placed_next rows n placed here row lt = grind (arith, cases_lt)
 
 -- the parents of well placed rows stand before them
 pub placed_rising : (rows : Rows) (n : ℕ) → AreWellPlaced rows n → (v p : ℕ) → v < n → parent_of rows v ≡ Some p → p < v

@@ -1,11 +1,10 @@
-use Rattle.std.proofs.Common.{sym, add-one}
+use Rattle.std.proofs.Common.{sym, add-one, arith}
 use Rattle.grove_tree.specs.BuiltRows.{rows_of}
 use Rattle.grove_tree.proofs.FaultlessRows.{rows_ruled, fault_found, fault_not_found}
 use Rattle.grove_tree.proofs.rules.fault_of_rows.Goals as goal
 
 pub fault_of_row-fault-requires-clause-placed : goal.fault_of_row-fault-requires-clause-placed
-fault_of_row-fault-requires-clause-placed c = λ row lt.
-    (rows_ruled (rows_of c.args.rows.now) c.loop-row.row c.loop-row.invariant.0 row lt).placed
+fault_of_row-fault-requires-clause-placed c = grind (arith, rows_ruled)
 
 pub returns-then-is_some : goal.returns-then-is_some
 returns-then-is_some c =

@@ -1,4 +1,4 @@
-use Rattle.std.proofs.Common.{◌≡◌, false, sym, ◌∙◌, add-one, arith}
+use Rattle.std.proofs.Common.{sym, ◌∙◌, add-one, arith}
 use Rattle.grove_tree.specs.Rules.{is_twin}
 use Rattle.grove_tree.specs.BuiltRows.{rows_of}
 use Rattle.grove_base.proofs.Counting.{any_from}
@@ -12,7 +12,4 @@ returns-then-are_twins c =
     (test ∙ sym c.are_twins.ensures ∙ c.if-are_twins.true))
 
 pub loop-other-preserved : goal.loop-other-preserved
-loop-other-preserved c =
-    let test = twin_test c.args.rows.now c.args.row c.loop-other.other _ _ c.index-rows-row.is c.requires c.index-rows-other.is (omega arith) in
-    let other : is_twin (rows_of c.args.rows.now) c.args.row c.loop-other.other ≡ false = test ∙ sym c.are_twins.ensures ∙ c.if-are_twins.false in
-    rw (add-one, other) c.loop-other.invariant
+loop-other-preserved c = grind (arith, add-one, twin_test)

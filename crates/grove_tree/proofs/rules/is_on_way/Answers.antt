@@ -1,13 +1,11 @@
-use Rattle.std.proofs.Common.{◌≡◌, ℕ, suc, ◌+◌, ◌<◌, ◌≤◌, sym, subst, arith, eq-eqb, eqb-true}
+use Rattle.std.proofs.Common.{suc, ◌+◌, ◌<◌, ◌≤◌, sym, arith, eq-eqb, eqb-true}
 use Rattle.grove_tree.specs.Trees.{IsAbove}
 use Rattle.grove_tree.specs.BuiltRows.{rows_of}
 use Rattle.grove_tree.proofs.Above.{up_le_from, above_child, above_self, above_parent, above_top}
 use Rattle.grove_tree.proofs.rules.is_on_way.Goals as goal
 
 pub loop-at-smaller : goal.loop-at-smaller
-loop-at-smaller c =
-    let less : c.in-Some.parent < c.loop-at.at = c.requires.rising c.loop-at.at c.in-Some.parent c.loop-at.invariant.0 (sym c.in-Some.ensures) in
-    omega arith
+loop-at-smaller c = grind (arith)
 
 pub loop-at-preserved : goal.loop-at-preserved
 loop-at-preserved c =
@@ -24,15 +22,13 @@ pub returns-in-None : goal.returns-in-None
 returns-in-None c = (
   (λ e. absurd (cc)),
   (λ way.
-      let same : c.args.high ≡ c.loop-at.at = above_top _ _ _ (sym c.in-None.ensures) (c.loop-at.invariant.1.0 way) in
-      absurd (omega arith)),
+      absurd (omega (arith, above_top _ _ _ (sym c.in-None.ensures) (c.loop-at.invariant.1.0 way)))),
 )
 
 pub returns : goal.returns
 returns c = (
   (λ e.
-      let same : c.loop-at.at ≡ c.args.high = eqb-true _ _ e in
-      c.loop-at.invariant.1.1 (subst (λ (v : ℕ). IsAbove (rows_of c.args.rows.now) v c.loop-at.at) same (above_self _ c.loop-at.at))),
+      grind (arith, above_self, eqb-true)),
   (λ way.
       let at_way : IsAbove (rows_of c.args.rows.now) c.args.high c.loop-at.at = c.loop-at.invariant.1.0 way in
       let le : c.args.high + at_way.0 ≤ c.loop-at.at =

@@ -1,5 +1,4 @@
-use Rattle.std.proofs.Common.{◌≡◌, ◌+◌, ◌/◌, List, length, rules, arith}
-use Rattle.grove_tree.specs.declared.row.Row.{Row}
+use Rattle.std.proofs.Common.{◌≡◌, ◌+◌, ◌/◌, length, rules, arith}
 use Rattle.grove_tree.specs.BuiltRows.{rows_of}
 use Rattle.grove_tree.specs.WeighedRows.{changes_from}
 use Rattle.grove_tree.proofs.WeightsByRule.{halves_taken, halves_weighed, halves_counted, changes_within}
@@ -11,18 +10,10 @@ join_mut-late-requires-after_bounds g t c κs within =
     search (rules, front, back)
 
 pub overflow_add-result : goal.overflow_add-result
-overflow_add-result g t c =
-    let f = g.U.Rule.gives c.args.rule.now in
-    let early : c.join_mut-late.result.1 ≡ changes_from f c.args.first (rows_of c.split_at_mut-front.result.0.now) = search rules in
-    let late : c.join_mut-late.result.0 ≡ changes_from f (c.args.first + length c.args.rows.now / 2) (rows_of c.split_at_mut-front.result.1.now) = search rules in
-    let count = halves_counted (g.U.Rule.gives c.args.rule.now) c.args.first _ c.args.rows.now _ _ _ _ c.split_at_mut-front.ensures.value c.split_at_mut-front.ensures.front_len early late in
-    let few = changes_within f c.args.first c.args.rows.now in
-    record { fits = omega arith }
+overflow_add-result g t c = grind (arith, changes_within, halves_counted)
 
 pub returns-clause-rows : goal.returns-clause-rows
-returns-clause-rows g t c =
-    let halves = λ (vs ws : List Row). halves_weighed (g.U.Rule.gives c.args.rule.now) c.args.first _ c.args.rows.now _ _ vs ws c.split_at_mut-front.ensures.value c.split_at_mut-front.ensures.front_len in
-    search (rules, halves)
+returns-clause-rows g t c = grind (arith, halves_weighed)
 
 pub returns-clause-count : goal.returns-clause-count
 returns-clause-count g t c =

@@ -13,16 +13,10 @@ weigh_alone-requires g t c κs within =
     search (rules, back)
 
 pub overflow_add-result : goal.overflow_add-result
-overflow_add-result g t c =
-    let f = g.U.Rule.gives c.args.rule.now in
-    let count = halves_counted (g.U.Rule.gives c.args.rule.now) c.args.first _ c.args.rows.now _ _ _ _ c.split_at_mut-front.ensures.value c.split_at_mut-front.ensures.front_len c.weigh_alone-early.ensures.count c.weigh_alone.ensures.count in
-    let few = changes_within f c.args.first c.args.rows.now in
-    record { fits = omega arith }
+overflow_add-result g t c = grind (arith, changes_within, halves_counted)
 
 pub returns-clause-rows : goal.returns-clause-rows
-returns-clause-rows g t c =
-    halves_weighed (g.U.Rule.gives c.args.rule.now) c.args.first _ c.args.rows.now _ _ _ _ c.split_at_mut-front.ensures.value c.split_at_mut-front.ensures.front_len c.weigh_alone-early.ensures.rows c.weigh_alone.ensures.rows
+returns-clause-rows g t c = grind (arith, halves_weighed)
 
 pub returns-clause-count : goal.returns-clause-count
-returns-clause-count g t c =
-    halves_counted (g.U.Rule.gives c.args.rule.now) c.args.first _ c.args.rows.now _ _ _ _ c.split_at_mut-front.ensures.value c.split_at_mut-front.ensures.front_len c.weigh_alone-early.ensures.count c.weigh_alone.ensures.count
+returns-clause-count g t c = grind (arith, halves_counted)

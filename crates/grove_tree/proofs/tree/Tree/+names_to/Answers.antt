@@ -1,4 +1,4 @@
-use Rattle.std.proofs.Common.{◌≡◌, ◌<◌, ◌∷◌, [], Some, sym, ◌∙◌, subst, append_assoc, arith, string_bytes}
+use Rattle.std.proofs.Common.{◌≡◌, ◌∷◌, [], Some, sym, ◌∙◌, subst, append_assoc, arith, string_bytes}
 use Rattle.grove_tree.specs.Trees.{Rows, parent_of, name_of}
 use Rattle.grove_tree.specs.Rules.{AreTreeRows}
 use Rattle.grove_tree.proofs.Above.{parent_lt}
@@ -7,11 +7,7 @@ use Rattle.grove_tree.proofs.OwnRows.{name_there}
 use Rattle.grove_tree.proofs.tree.Tree.+names_to.Goals as goal
 
 pub names_to-requires : goal.names_to-requires
-names_to-requires t c =
-    let tree = subst (λ (rows : Rows). AreTreeRows rows) c.self.view_is c.self.invariant.0 in
-    let own : parent_of c.args.self.now c.args.node ≡ Some c.in-Some.parent = sym c.parent.ensures ∙ c.in-Some.is in
-    let less : c.in-Some.parent < c.args.node = parent_lt c.args.self.now tree.0 c.args.node c.in-Some.parent own in
-    (omega (arith, c.decreases), omega (arith, c.requires))
+names_to-requires t c = grind (arith, parent_lt)
 
 pub returns-clause-names : goal.returns-clause-names
 returns-clause-names t c =

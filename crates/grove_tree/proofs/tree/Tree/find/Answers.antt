@@ -1,4 +1,4 @@
-use Rattle.std.proofs.Common.{None, sym, ◌∙◌, ap}
+use Rattle.std.proofs.Common.{None, sym, ◌∙◌, ap, arith}
 use Rattle.grove_tree.specs.Paths.{or_slash}
 use Rattle.std.proofs.lemmas.Option.{IfSome_then}
 use Rattle.grove_tree.proofs.Paths.{node_found, root_names, path_names, names_path, path_some}
@@ -8,14 +8,12 @@ pub returns-in-empty-clause-node : goal.returns-in-empty-clause-node
 returns-in-empty-clause-node c = node_found c.args.self.now c.args.path.now None tt (λ node within is. absurd (path_some _ (is ∙ c.in-empty.is)))
 
 pub returns-in-text-clause-only : goal.returns-in-text-clause-only
-returns-in-text-clause-only c = λ node within is.
-    c.find_names.ensures.only node within (root_names c.args.self.now c.find_names.ensures.tree c.find_names.ensures.limits node (is ∙ c.in-text.is))
+returns-in-text-clause-only c = grind (arith, root_names)
 
 pub returns-in-text-clause-node : goal.returns-in-text-clause-node
 returns-in-text-clause-node c = node_found c.args.self.now c.args.path.now c.find_names.result
     (IfSome_then c.find_names.result c.find_names.ensures.found
-    (λ node found. (found.0, ap or_slash found.1 ∙ sym c.in-text.is)))
-    (returns-in-text-clause-only c)
+    (λ node found. (found.0, ap or_slash found.1 ∙ sym c.in-text.is))) (returns-in-text-clause-only c)
 
 pub returns-in_default-clause-node : goal.returns-in_default-clause-node
 returns-in_default-clause-node c = node_found c.args.self.now c.args.path.now c.find_names-in_default.result

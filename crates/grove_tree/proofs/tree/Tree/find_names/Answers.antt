@@ -1,9 +1,9 @@
-use Rattle.std.proofs.Common.{◌≡◌, ℕ, List, [], Some, ◌∙◌, ap, subst}
+use Rattle.std.proofs.Common.{◌≡◌, ◌∙◌, ap, subst, arith}
 use Rattle.grove_tree.specs.Trees.{Rows}
 use Rattle.grove_tree.specs.Rules.{AreTreeRows}
 use Rattle.grove_tree.specs.BuiltRows.{rows_of}
 use Rattle.grove_tree.proofs.PathParts.{is_nil, not_nil}
-use Rattle.grove_tree.proofs.PathDescent.{IsFinding, finding_root, finding_child, finding_stuck, finding_end}
+use Rattle.grove_tree.proofs.PathDescent.{finding_root, finding_child, finding_stuck, finding_end}
 use Rattle.grove_tree.proofs.tree.Tree.find_names.Goals as goal
 
 pub loop-rest-init : goal.loop-rest-init
@@ -26,8 +26,4 @@ loop-rest-preserved c =
     (not_nil c.loop-rest.rest.now c.loop-rest-test.ensures) (rw same at c.in_ok-child.ensures)
 
 pub returns-clause-only : goal.returns-clause-only
-returns-clause-only c =
-    let tree = subst (λ (rows : Rows). AreTreeRows rows) c.self.view_is c.self.invariant.0 in
-    let empty : c.loop-rest.rest.now ≡ [] = is_nil c.loop-rest.rest.now c.loop-rest-test.ensures in
-    let (is, only) = finding_end c.args.self.now c.args.names.now c.loop-rest.at tree.0 (subst (λ (rest : List ℕ). IsFinding c.args.self.now c.args.names.now rest c.loop-rest.at) empty c.loop-rest.invariant) in
-    λ node within same. ap (λ (v : ℕ). Some v) (c.new.ensures ∙ only node within same)
+returns-clause-only c = grind (arith, finding_end, is_nil)
