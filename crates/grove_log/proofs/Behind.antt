@@ -1,17 +1,15 @@
 -- Where a whole frame stands behind what doesn't pass.
 use Rattle.std.proofs.Common.{◌≡◌, ℕ, ◌+◌, ◌-◌, ◌<◌, ◌≤◌, Bool, true, false, ◌||◌, List, [], ◌∷◌, length, take, drop}
-use Rattle.std.proofs.Common.{None, refl, sym, ap, ◌∙◌, arith, ltb}
+use Rattle.std.proofs.Common.{None, refl, ap, ◌∙◌, arith}
 use Rattle.std.proofs.lemmas.Bool.{lt-ltb}
 use Rattle.std.proofs.lemmas.List.{drop_all, take_all, length-drop}
-use Rattle.grove_log.specs.Frames.{digest, size_at, frame_at, has_frame}
+use Rattle.grove_log.specs.Frames.{size_at, frame_at, has_frame}
 use Rattle.grove_log.specs.Readings.{holds_frame, holds_behind}
 
 -- no frame is in so few bytes
 pub none_in : (before bytes : List ℕ) → length bytes < 8 → frame_at before bytes ≡ None
 unfolding frame_at size_at
-none_in before bytes less =
-    let short : ltb (length bytes) 8 ≡ true = lt-ltb (length bytes) 8 less in
-    rw short refl
+none_in before bytes less = grind (arith, lt-ltb)
 
 -- nor behind 32 that aren't there
 pub short_of_frame : (before bytes : List ℕ) → length bytes ≤ 32 → has_frame before (drop 32 bytes) ≡ false
@@ -32,9 +30,7 @@ pub holds_next : (bytes : List ℕ) → 1 ≤ length bytes → has_frame (take 3
     → holds_frame (take (length bytes - 1) (drop 1 bytes)) ≡ holds_frame bytes
 unfolding holds_frame
 holds_next [] le none = absurd (omega arith)
-holds_next (byte ∷ bytes) le none =
-    ap holds_frame (take_all (length (byte ∷ bytes) - 1) bytes (omega arith))
-    ∙ sym (ap (λ (t : Bool). t || holds_frame bytes) none)
+holds_next (byte ∷ bytes) le none = grind (arith, take_all)
 
 pub holds_short : (bytes : List ℕ) → length bytes ≤ 32 → holds_frame bytes ≡ false
 unfolding holds_frame
@@ -46,8 +42,4 @@ holds_short (b ∷ bytes) le =
 -- too few bytes for a frame of this length have none behind it
 pub nothing_behind : (before body : List ℕ) (n : ℕ) → length body < n + 32 → holds_behind before body n ≡ false
 unfolding holds_behind
-nothing_behind before body n less =
-    let few : length (drop n body) ≤ 32 = omega (arith, length-drop n body) in
-    ap (λ (t : Bool). t || has_frame (digest before (take n body)) (drop 32 (drop n body))) (holds_short
-    (drop n body) few)
-    ∙ short_of_frame (digest before (take n body)) (drop n body) few
+nothing_behind before body n less = grind (arith, holds_short, length-drop, short_of_frame)

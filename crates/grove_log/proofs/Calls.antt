@@ -1,12 +1,13 @@
 -- What a crash may leave from call to call, while a payload is put behind a log and while a log begins anew.
-use Rattle.std.proofs.Common.{◌≡◌, ◌⊎◌, ℕ, ◌^◌, ◌<◌, List, ◌++◌, length, Option, Some, refl, sym, ◌∙◌, subst}
+use Rattle.std.proofs.Common.{◌≡◌, ◌⊎◌, ℕ, ◌^◌, ◌<◌, List, ◌++◌, length, Option, Some, sym, ◌∙◌, subst, arith}
 use Rattle.std.proofs.Common.{inl, inr, ⊎_elim}
 use Rattle.grove_log.specs.Devices.{Only, Follows, Torn, Elapses, LeavesOnly}
-use Rattle.grove_log.specs.Files.{head, reading_of, recovered, StandsFor, IsWhole}
+use Rattle.grove_log.specs.Files.{head, reading_of, recovered, IsWhole}
 use Rattle.grove_log.specs.Frames.{frame}
 use Rattle.grove_log.specs.Logs.{IsBeforeOrAfter, IsOldOrNew}
-use Rattle.grove_log.proofs.Crash.{append_crash, alone, same_some}
+use Rattle.grove_log.proofs.Crash.{append_crash, alone}
 use Rattle.grove_log.proofs.Moments.{started, goes_on}
+use Rattle.std.proofs.lemmas.Option.{same_Some}
 
 module _ {D : Type 0} (seen : D → List ℕ) (may_leave : D → List ℕ → Type 0) (moment : D → ℕ)
     (left_since : D → ℕ → List ℕ → Type 0)
@@ -18,10 +19,7 @@ module _ {D : Type 0} (seen : D → List ℕ) (may_leave : D → List ℕ → Ty
     IsLeft = IsBeforeOrAfter (recovered (seen old)) payload
 
     pub before_append : LeavesOnly moment left_since old old IsLeft
-    before_append = started moment left_since old IsLeft
-        (λ f left. inl (subst (λ (l : List ℕ). StandsFor (recovered (seen old)) l) (sym (durable f
-        (only_now old f left)))
-        (record { readable = whole.readable; payloads = refl })))
+    before_append = grind (arith, started)
 
     module _ (bytes : List ℕ) (put : D) (short : length payload < 2 ^ 32)
         (is_frame : bytes ≡ frame (reading_of (seen old)).seal payload)
@@ -37,9 +35,7 @@ module _ {D : Type 0} (seen : D → List ℕ) (may_leave : D → List ℕ → Ty
       pub in_sync : (new : D) → ((c : List ℕ) → may_leave new c → may_leave put c)
           → Elapses (moment put) (moment new) (left_since put) (left_since new) (may_leave new)
           → LeavesOnly moment left_since old new IsLeft
-      in_sync new kept later =
-          goes_on moment left_since old put new IsLeft (may_leave new) in_append later (λ f now. left_by_put f
-          (kept f now))
+      in_sync new kept later = grind (arith, goes_on, in_append, left_by_put)
 
   -- ---- a log begins anew
 
@@ -64,5 +60,5 @@ module _ {D : Type 0} (seen : D → List ℕ) (may_leave : D → List ℕ → Ty
       in_rename number bytes next new long short is_file written renamed later =
           goes_on moment left_since old put new IsLeftAnew (may_leave new) in_write later
           (λ f now. ⊎_elim (λ was. inl (durable f (kept f was)))
-          (λ is. inr (alone number payload f long short (same_some _ _ (sym is ∙ written) ∙ is_file)).stands)
+          (λ is. inr (alone number payload f long short (same_Some _ _ (sym is ∙ written) ∙ is_file)).stands)
           (renamed f now))

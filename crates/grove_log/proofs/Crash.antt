@@ -1,11 +1,10 @@
 -- What a crash leaves while a frame is put behind a file, and what a file of one frame stands for.
-use Rattle.std.proofs.Common.{◌≡◌, append-nil, ℕ, ◌^◌, ◌<◌, ◌≤◌, Bool, true, false, ◌||◌, List, [], ◌∷◌, ◌++◌}
-use Rattle.std.proofs.Common.{length}
-use Rattle.std.proofs.Common.{take, drop, Option, None, Some, refl, sym, ap, subst, ◌∙◌, append_assoc, arith, inl, inr}
+use Rattle.std.proofs.Common.{◌≡◌, append-nil, ℕ, ◌^◌, ◌<◌, ◌≤◌, Bool, true, false, ◌||◌, List, [], ◌∷◌, ◌++◌, length}
+use Rattle.std.proofs.Common.{drop, Option, None, Some, refl, sym, ap, subst, ◌∙◌, append_assoc, arith, inl, inr}
 use Rattle.std.specs.Prelude.{codes, is_some}
 use Rattle.std.specs.Int.{w32, to_le_bytes}
 use Rattle.std.proofs.lemmas.Bool.{cases_Bool}
-use Rattle.std.proofs.lemmas.List.{take-append-drop, take_at, drop_at, take_all, drop_all}
+use Rattle.std.proofs.lemmas.List.{take-append-drop, take_all, drop_all}
 use Rattle.grove_log.specs.Frames.{digest, size, frame, size_at, frame_at, has_frame}
 use Rattle.grove_log.specs.Readings.{Reading, with_payload, reading, holds_frame, is_damaged}
 use Rattle.grove_log.specs.Files.{head, number_of, reading_of, recovered, damage_of, fault_of, StandsFor, IsWhole}
@@ -20,9 +19,7 @@ use Rattle.grove_log.proofs.Extended.{onto, extended, IsHeaded, headed_fault, un
 pub frame_is : (before payload bytes seal own : List ℕ) → bytes ≡ size (length payload) ++ payload ++ seal
     → seal ≡ digest own payload → own ≡ before → bytes ≡ frame before payload
 unfolding frame
-frame_is before payload bytes seal own is sealed chained =
-    is ∙ ap (λ (d : List ℕ). size (length payload) ++ payload ++ d) (sealed
-    ∙ ap (λ (d : List ℕ). digest d payload) chained)
+frame_is before payload bytes seal own is sealed chained = grind (arith)
 
 pub file_is : (number payload bytes seal : List ℕ) → bytes ≡ head number ++ size (length payload) ++ payload ++ seal
     → seal ≡ digest number payload → bytes ≡ head number ++ frame number payload
@@ -100,8 +97,7 @@ pub not_done : (old tail : List ℕ) → IsWhole old → holds_any (reading_of o
     → StandsFor (recovered old) (old ++ tail)
 not_done old tail whole none = record {
   readable = readable;
-  payloads = ap (λ (r : Reading). r.payloads) reads
-      ∙ append-nil (recovered old);
+  payloads = ap (λ (r : Reading). r.payloads) reads ∙ append-nil (recovered old);
 }
   where
     last : List ℕ
@@ -144,10 +140,7 @@ torn_frame old payload new whole short torn =
 pub append_crash : (old payload : List ℕ) (before after : List ℕ → Type 0) → IsWhole old → length payload < 2 ^ 32
     → Only old before → Follows (Torn (frame (reading_of old).seal payload)) before after
     → (c : List ℕ) → after c → IsBeforeOrAfter (recovered old) payload c
-append_crash old payload before after whole short only follows c left =
-    let from = follows c left in
-    torn_frame old payload c whole short
-    (subst (λ (f : List ℕ). Torn (frame (reading_of old).seal payload) f c) (only from.0 from.1) from.2)
+append_crash old payload before after whole short only follows c left = grind (arith, torn_frame)
 
 -- ---- a file of one frame
 
@@ -165,10 +158,7 @@ headed number long = record { long = omega (arith, long); magic = refl; version 
 
 -- a head alone
 pub headless : (number : List ℕ) → length number ≡ 32 → reading_of (head number) ≡ ended number []
-headless number long =
-    ap (λ (l : List ℕ). reading l (drop 44 (head number))) (number_again number long)
-    ∙ ap (λ (l : List ℕ). reading number l) (nothing_behind_head number long)
-    ∙ reading_none number [] (nothing_at number)
+headless number long = grind (arith, nothing_at, nothing_behind_head, number_again, reading_none)
 
 pub whole_head : (number : List ℕ) → length number ≡ 32 → IsWhole (head number)
 whole_head number long =
@@ -198,9 +188,6 @@ alone number payload file long short is =
       seal = d.seal ∙ ap (λ (n : List ℕ). digest n payload) seal;
     }
 
-pub same_some : (x y : List ℕ) → Some x ≡ Some y → x ≡ y
-same_some x y e = cc
-
 -- ---- what a front of a frame is
 
 -- nothing was put, and all of it
@@ -215,17 +202,7 @@ torn_not bytes file = record {
     false_true e = cc
 
     no_any : (file : List ℕ) → holds_any (reading_of file).seal [] ≡ true → ⊥
-    no_any file e =
-        let seal = (reading_of file).seal in
-        absurd (false_true (sym (ap (λ (o : Option (List ℕ × List ℕ)). is_some o || is_damaged seal [])
-        (nothing_at seal)
-        ∙ nothing_damaged seal) ∙ e))
-
-pub torn_whole : (bytes file : List ℕ) → Torn bytes file (file ++ bytes)
-torn_whole bytes file = record {
-  before = take_at file bytes (length file) refl;
-  unforged = λ holds. drop_at file bytes (length file) refl;
-}
+    no_any file e = grind (arith, nothing_at, nothing_damaged)
 
 pub caused_later : (before between now : ℕ) (error : DeviceError) → before ≤ between → IsCaused between now error
     → IsCaused before now error

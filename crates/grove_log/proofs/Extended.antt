@@ -1,10 +1,7 @@
 -- What a file that ends with its last frame stands for, with more behind it.
-use Rattle.std.proofs.Common.{◌≡◌, ℕ, zero, suc, ◌+◌, ◌≤◌, Bool, true, false, cond, ltb, eqb, ◌||◌, not, List, []}
-use Rattle.std.proofs.Common.{◌++◌, length, take, drop, Option, Some, None, refl, sym, ap, ◌∙◌, append_assoc}
-use Rattle.std.proofs.Common.{arith}
-use Rattle.std.proofs.Common.{inl, inr}
+use Rattle.std.proofs.Common.{◌≡◌, ℕ, zero, suc, ◌≤◌, Bool, true, false, cond, eqb, ◌||◌, not, List, [], ◌++◌}
+use Rattle.std.proofs.Common.{length, take, drop, Option, Some, None, refl, sym, ap, ◌∙◌, arith, inl, inr}
 use Rattle.std.specs.Prelude.{codes, ◌-◌, if◌then◌else◌}
-use Rattle.std.specs.Int.{w32, from_le_bytes}
 use Rattle.std.specs.List.{starts_with}
 use Rattle.std.specs.Option.{option_map_or}
 use Rattle.std.proofs.lemmas.Bool.{ltb-false, le-ltb}
@@ -17,8 +14,9 @@ use Rattle.grove_log.specs.Files.{number_of, reading_of, recovered, version_of, 
 use Rattle.grove_log.specs.Files.{IsWhole}
 use Rattle.grove_log.specs.declared.reading.Unreadable.{Unreadable}
 use Rattle.grove_log.specs.declared.reading.Unreadable.TheVariants.{Damaged}
-use Rattle.grove_log.proofs.Passing.{is_found, frame_more, frame_less, front_more, back_more}
+use Rattle.grove_log.proofs.Passing.{frame_more, frame_less, front_more, back_more}
 use Rattle.grove_log.proofs.Steps.{empty_none, reading_none, reading_more}
+use Rattle.grove_base.proofs.Lists.{there_or_none}
 
 -- payloads that were read before
 abbrev pub onto : List (List ℕ) → Reading → Reading
@@ -26,18 +24,14 @@ onto payloads r = record { payloads = payloads ++ r.payloads; seal = r.seal; res
 
 ends : (before bytes more : List ℕ) → frame_at before bytes ≡ None → (reading before bytes).rest ≡ []
     → reading before (bytes ++ more) ≡ onto (reading before bytes).payloads (reading (reading before bytes).seal more)
-ends before bytes more none empty =
-    let stop = reading_none before bytes none in
-    let nil : bytes ≡ [] = sym (ap (λ (r : Reading). r.rest) stop) ∙ empty in
-    ap (λ (l : List ℕ). reading before (l ++ more)) nil
-    ∙ sym (ap (λ (r : Reading). onto r.payloads (reading r.seal more)) stop)
+ends before bytes more none empty = grind (arith, reading_none)
 
 -- reading goes on behind frames with nothing left
 pub reading_on : (n : ℕ) (before bytes more : List ℕ) → length bytes ≤ n → (reading before bytes).rest ≡ []
     → reading before (bytes ++ more) ≡ onto (reading before bytes).payloads (reading (reading before bytes).seal more)
 reading_on zero before bytes more le empty = ends before bytes more (empty_none before bytes le) empty
 reading_on (suc n) before bytes more le empty =
-    elim (is_found (frame_at before bytes)) [
+    elim (there_or_none (frame_at before bytes)) [
       | inl none ↦ ends before bytes more none empty
       | inr found ↦
           let payload = found.0.0 in
@@ -46,8 +40,7 @@ reading_on (suc n) before bytes more le empty =
           let still : (reading (digest before payload) after).rest ≡ [] = sym (ap (λ (r : Reading). r.rest) here)
           ∙ empty in
           reading_more before (bytes ++ more) payload (after ++ more) (frame_more before bytes more
-          (payload, after) found.1)
-          ∙ ap (with_payload payload) (reading_on n (digest before payload) after more
+          (payload, after) found.1) ∙ ap (with_payload payload) (reading_on n (digest before payload) after more
           (omega (arith, frame_less before bytes payload after found.1)) still)
           ∙ sym (ap (λ (r : Reading). onto r.payloads (reading r.seal more)) here)
     ]
@@ -62,15 +55,11 @@ pub record IsHeaded (file : List ℕ) : Type 0 where
 
 headed_none : (file : List ℕ) → IsHeaded file → head_fault file ≡ None
 unfolding head_fault
-headed_none file headed =
-    let long : ltb (length file) 44 ≡ false = le-ltb _ _ headed.long in
-    rw (long, headed.magic, headed.version) refl
+headed_none file headed = grind (arith, le-ltb)
 
 pub headed_fault : (file : List ℕ) → IsHeaded file → fault_of file ≡ damage_of (length file) (reading_of file)
 unfolding fault_of
-headed_fault file headed =
-    ap (λ (o : Option Unreadable). option_map_or (λ f. Some f) o (damage_of (length file) (reading_of file)))
-    (headed_none file headed)
+headed_fault file headed = grind (arith, headed_none)
 
 pub undamaged : (n : ℕ) (r : Reading) → is_damaged r.seal r.rest ≡ false → damage_of n r ≡ None
 undamaged n r e = rw e refl
@@ -94,36 +83,14 @@ mapped_none (Some x) d e = absurd cc
 
 headed_of_head : (file : List ℕ) → head_fault file ≡ None → IsHeaded file
 unfolding head_fault
-headed_of_head file e =
-    let first = refused_none (ltb (length file) 44 || not (starts_with eqb file (codes "grovelog"))) _ _ e in
-    let tests = neither (ltb (length file) 44) (starts_with eqb file (codes "grovelog")) first.0 in
-    record {
-      long = ltb-false _ _ tests.0;
-      magic = tests.1;
-      version = passed_none (eqb
-          (version_of file) 1) _ _ first.1;
-    }
+headed_of_head file e = grind (arith, ltb-false, neither, passed_none, refused_none)
 
 pub headed_of : (file : List ℕ) → fault_of file ≡ None → IsHeaded file
 unfolding fault_of
 headed_of file e = headed_of_head file (mapped_none (head_fault file) _ e)
 
 headed_more : (file more : List ℕ) → IsHeaded file → IsHeaded (file ++ more)
-headed_more file more headed =
-    let magic = codes "grovelog" in
-    let long = headed.long in
-    let whole : file ≡ magic ++ drop (length magic) file = (starts_is Decides-eqb file magic _ refl).0 headed.magic in
-    let both : file ++ more ≡ magic ++ (drop (length magic) file ++ more) =
-    ap (λ (l : List ℕ). l ++ more) whole ∙ append_assoc magic (drop (length magic) file) more in
-    let same : version_of (file ++ more) ≡ version_of file =
-    ap (λ (l : List ℕ). from_le_bytes w32 (take 4 l)) (back_more 8 file more (omega arith))
-    ∙ ap (λ (l : List ℕ). from_le_bytes w32 l)
-    (front_more 4 (drop 8 file) more (omega (arith, length-drop 8 file))) in
-    record {
-      long = omega (arith, length-append file more);
-      magic = (starts_is Decides-eqb (file ++ more) magic _ refl).1 (drop (length magic) file ++ more) both;
-      version = ap (λ (n : ℕ). eqb n 1) same ∙ headed.version;
-    }
+headed_more file more headed = grind (arith, Decides-eqb, back_more, front_more, length-append, length-drop, starts_is)
 
 number_more : (file more : List ℕ) → 44 ≤ length file → number_of (file ++ more) ≡ number_of file
 number_more file more long =
@@ -158,11 +125,7 @@ pub file_damage : (file seal rest : List ℕ) (r : Reading) → head_fault file 
     → rest ≡ r.rest → fault_of file
     ≡ (if is_damaged seal rest then Some (Damaged (length file - length rest)) else None)
 unfolding fault_of
-file_damage file seal rest r none is e e' =
-    ap (λ (o : Option Unreadable). option_map_or (λ f. Some f) o (damage_of (length file) (reading_of file))) none
-    ∙ ap (damage_of (length file)) (sym is)
-    ∙ ap (λ (s : List ℕ). if is_damaged s r.rest then Some (Damaged (length file - length r.rest)) else None) (sym e)
-    ∙ ap (λ (l : List ℕ). if is_damaged seal l then Some (Damaged (length file - length l)) else None) (sym e')
+file_damage file seal rest r none is e e' = grind (arith)
 
 pub file_refused : (file : List ℕ) (why : Unreadable) → head_fault file ≡ Some why → fault_of file ≡ Some why
 unfolding fault_of

@@ -12,8 +12,10 @@ use Rattle.grove_log.specs.Frames.{digest, size, frame, size_at, frame_at, has_f
 use Rattle.grove_log.specs.Readings.{holds_frame, holds_behind, is_damaged}
 use Rattle.grove_log.specs.Devices.{holds_any, Torn}
 use Rattle.grove_log.specs.Files.{reading_of}
-use Rattle.grove_log.proofs.Passing.{is_found, size_more, size_again, length_size, frame_more, frame_again}
+use Rattle.grove_log.proofs.Passing.{size_more, size_again, length_size, frame_more, frame_again}
 use Rattle.grove_log.proofs.Behind.{holds_short, nothing_behind}
+use Rattle.grove_base.proofs.Lists.{there_or_none}
+use Rattle.std.proofs.Math.Bool.{or-true}
 
 pub length_digest : (before payload : List ℕ) → length (digest before payload) ≡ 32
 unfolding digest
@@ -21,15 +23,7 @@ length_digest before payload = length-sha256 (before ++ payload)
 
 pub length_frame : (before payload : List ℕ) → length (frame before payload) ≡ 8 + length payload + 32
 unfolding frame
-length_frame before payload =
-    let seal = digest before payload in
-    omega (
-      arith,
-      length-append (size (length payload) ++ payload) seal,
-      length-append (size (length payload)) payload,
-      length_size (length payload),
-      length_digest before payload,
-    )
+length_frame before payload = grind (arith, length-append, length_digest, length_size)
 
 size_of_frame : (before payload : List ℕ) → length payload < 2 ^ 32
     → size_at (frame before payload) ≡ Some (length payload)
@@ -45,7 +39,7 @@ front_none : (before payload : List ℕ) (n : ℕ) → length payload < 2 ^ 32 �
     → frame_at before (take n (frame before payload)) ≡ None
 front_none before payload n short less =
     let bytes = frame before payload in
-    elim (is_found (frame_at before (take n bytes))) [
+    elim (there_or_none (frame_at before (take n bytes))) [
       | inl is ↦ is
       | inr found ↦
           let more : frame_at before bytes ≡ Some (found.0.0, found.0.1 ++ drop n bytes) =
@@ -109,16 +103,10 @@ torn_front file payload n short =
 
 -- ---- a damaged part
 
-or_true : (a : Bool) → (a || true) ≡ true
-or_true true = refl
-or_true false = refl
-
 holds_after : (front bytes : List ℕ) → holds_frame bytes ≡ true → holds_frame (front ++ bytes) ≡ true
 unfolding holds_frame
 holds_after [] bytes holds = holds
-holds_after (byte ∷ front) bytes holds =
-    let here = has_frame (take 32 (byte ∷ (front ++ bytes))) (drop 32 (byte ∷ (front ++ bytes))) in
-    ap (λ (t : Bool). here || t) (holds_after front bytes holds) ∙ or_true here
+holds_after (byte ∷ front) bytes holds = grind (arith, or-true, holds_after front bytes holds)
 
 first : (byte : ℕ) (bytes : List ℕ) → has_frame (take 32 (byte ∷ bytes)) (drop 32 (byte ∷ bytes)) ≡ true
     → holds_frame (byte ∷ bytes) ≡ true
@@ -135,13 +123,11 @@ chained_holds seal payload rest long short = at seal (frame seal payload ++ rest
     at [] behind long has = absurd (omega arith)
     at (byte ∷ seal) behind long has = first byte (seal ++ behind)
         (ap (λ (l : List ℕ). has_frame l (drop 32 ((byte ∷ seal) ++ behind))) (take_at (byte ∷ seal) behind 32
-        long)
-        ∙ ap (λ (l : List ℕ). has_frame (byte ∷ seal) l) (drop_at (byte ∷ seal) behind 32 long) ∙ has)
+        long) ∙ ap (λ (l : List ℕ). has_frame (byte ∷ seal) l) (drop_at (byte ∷ seal) behind 32 long) ∙ has)
 
 pub damaged_payload : (before payload other next rest : List ℕ) → length other ≡ length payload
     → length payload < 2 ^ 32 → length next < 2 ^ 32 → is_damaged before
-    (size (length payload) ++ (other ++ (digest before payload ++ (frame
-    (digest before payload) next ++ rest)))) ≡ true
+    (size (length payload) ++ (other ++ (digest before payload ++ (frame (digest before payload) next ++ rest)))) ≡ true
 unfolding is_damaged holds_behind
 damaged_payload before payload other next rest same short short' =
     let seal = digest before payload in
@@ -170,25 +156,16 @@ damaged_digest before payload other next rest long short short' =
     ap told (size_again n (payload ++ tail) short)
     ∙ ap (λ (l : List ℕ). holds_behind before l n) (drop_at (size n) (payload ++ tail) 8 (length_size n))
     ∙ ap (λ (l : List ℕ). holds_frame (drop n (payload ++ tail)) || has_frame (digest before l) (drop 32 (drop n
-    (payload ++ tail))))
-    (take_at payload tail n refl)
+    (payload ++ tail)))) (take_at payload tail n refl)
     ∙ ap (λ (l : List ℕ). holds_frame (drop n (payload ++ tail)) || has_frame seal (drop 32 l))
     (drop_at payload tail n refl)
     ∙ ap (λ (l : List ℕ). holds_frame (drop n (payload ++ tail)) || has_frame seal l) (drop_at other behind 32
-    long)
-    ∙ ap (λ (o : Option (List ℕ × List ℕ)). holds_frame (drop n (payload ++ tail)) || is_some o)
-    (frame_again seal next rest short')
-    ∙ or_true (holds_frame (drop n (payload ++ tail)))
+    long) ∙ ap (λ (o : Option (List ℕ × List ℕ)). holds_frame (drop n (payload ++ tail)) || is_some o)
+    (frame_again seal next rest short') ∙ or-true (holds_frame (drop n (payload ++ tail)))
 
 pub damaged_size : (before payload other next rest : List ℕ) → length next < 2 ^ 32
     → size_at (other ++ (payload ++ (digest before payload ++ (frame (digest before payload) next ++ rest)))) ≡ None
     → is_damaged before (other ++ (payload ++ (digest before payload ++ (frame
     (digest before payload) next ++ rest)))) ≡ true
 unfolding is_damaged
-damaged_size before payload other next rest short none =
-    let seal = digest before payload in
-    let tail = seal ++ (frame seal next ++ rest) in
-    let bytes = other ++ (payload ++ tail) in
-    ap (λ (o : Option ℕ). option_map_or (holds_behind before (drop 8 bytes)) o (holds_frame bytes)) none
-    ∙ holds_after other (payload ++ tail)
-    (holds_after payload tail (chained_holds seal next rest (length_digest before payload) short))
+damaged_size before payload other next rest short none = grind (arith, chained_holds, holds_after, length_digest)

@@ -1,8 +1,7 @@
 -- What passes for a frame still does with more behind it, and a frame passes.
-use Rattle.std.proofs.Common.{◌≡◌, ℕ, ◌+◌, ◌-◌, ◌^◌, ◌<◌, ◌≤◌, Bool, true, false, cond, ltb, eqb, List, ◌++◌}
-use Rattle.std.proofs.Common.{length}
-use Rattle.std.proofs.Common.{take, drop, Option, Some, None, refl, sym, ap, ◌∙◌, append_assoc, arith, inl, inr, ◌⊎◌}
-use Rattle.std.specs.Int.{w32, to_le_bytes, from_le_bytes}
+use Rattle.std.proofs.Common.{◌≡◌, ℕ, ◌-◌, ◌^◌, ◌<◌, ◌≤◌, Bool, true, false, cond, ltb, eqb, List, ◌++◌, length}
+use Rattle.std.proofs.Common.{take, drop, Option, Some, None, refl, sym, ap, ◌∙◌, append_assoc, arith, inl, inr}
+use Rattle.std.specs.Int.{w32, from_le_bytes}
 use Rattle.std.specs.List.{starts_with}
 use Rattle.std.specs.Option.{option_map_or}
 use Rattle.std.proofs.lemmas.Bool.{ltb-false, le-ltb, eq-eqb}
@@ -12,15 +11,12 @@ use Rattle.std.proofs.lemmas.Nat.{from_le_bytes-to_le_bytes_4}
 use Rattle.std.proofs.lemmas.Option.{cond_some}
 use Rattle.std.proofs.lemmas.Slice.Eq.{starts_is}
 use Rattle.grove_log.specs.Frames.{digest, size, frame, checked_size, size_at, sealed_at, body_at, frame_at}
+use Rattle.grove_base.proofs.Lists.{there_or_none}
 
 -- a test that did not fail
 guard_some : {A : Type 0} (b : Bool) (o : Option A) (x : A) → cond b None o ≡ Some x → (b ≡ false) × (o ≡ Some x)
 guard_some true o x e = absurd cc
 guard_some false o x e = (refl, e)
-
-pub is_found : {A : Type 0} (o : Option A) → (o ≡ None) ⊎ ((x : A) × (o ≡ Some x))
-is_found None = inl refl
-is_found (Some x) = inr (x, refl)
 
 -- ---- with more behind
 
@@ -42,13 +38,7 @@ size_long bytes n e = ltb-false _ _ (guard_some (ltb (length bytes) 8) _ n e).0
 
 pub size_more : (bytes more : List ℕ) → 8 ≤ length bytes → size_at (bytes ++ more) ≡ size_at bytes
 unfolding size_at
-size_more bytes more le =
-    let long : ltb (length (bytes ++ more)) 8 ≡ false = le-ltb _ _ (omega (arith, length-append bytes more)) in
-    let short : ltb (length bytes) 8 ≡ false = le-ltb _ _ le in
-    let check : take 4 (drop 4 (bytes ++ more)) ≡ take 4 (drop 4 bytes) =
-    ap (λ (l : List ℕ). take 4 l) (back_more 4 bytes more (omega arith))
-    ∙ front_more 4 (drop 4 bytes) more (omega (arith, length-drop 4 bytes)) in
-    rw (long, short, front_more 4 bytes more (omega arith), check) refl
+size_more bytes more le = grind (arith, back_more, front_more, le-ltb, length-append, length-drop)
 
 body_more : (before body more : List ℕ) (n : ℕ) (x : List ℕ × List ℕ) → body_at before body n ≡ Some x
     → body_at before (body ++ more) n ≡ Some (x.0, x.1 ++ more)
@@ -76,7 +66,7 @@ pub frame_more : (before bytes more : List ℕ) (x : List ℕ × List ℕ) → f
     → frame_at before (bytes ++ more) ≡ Some (x.0, x.1 ++ more)
 unfolding frame_at
 frame_more before bytes more x e =
-    elim (is_found (size_at bytes)) [
+    elim (there_or_none (size_at bytes)) [
       | inl none ↦ absurd (none_some x (sym (ap (λ (o : Option ℕ). option_map_or (body_at before
           (drop 8 bytes)) o None) none) ∙ e))
       | inr some ↦
@@ -85,8 +75,7 @@ frame_more before bytes more x e =
           let here : body_at before (drop 8 bytes) n ≡ Some x =
           sym (ap (λ (o : Option ℕ). option_map_or (body_at before (drop 8 bytes)) o None) some.1) ∙ e in
           ap (λ (o : Option ℕ). option_map_or (body_at before (drop 8 (bytes ++ more))) o None)
-          (size_more bytes more long ∙ some.1)
-          ∙ ap (λ (l : List ℕ). body_at before l n) (back_more 8 bytes more long)
+          (size_more bytes more long ∙ some.1) ∙ ap (λ (l : List ℕ). body_at before l n) (back_more 8 bytes more long)
           ∙ body_more before (drop 8 bytes) more n x here
     ]
   where
@@ -98,7 +87,7 @@ pub frame_less : (before bytes payload after : List ℕ) → frame_at before byt
     → length after < length bytes
 unfolding frame_at body_at sealed_at
 frame_less before bytes payload after e =
-    elim (is_found (size_at bytes)) [
+    elim (there_or_none (size_at bytes)) [
       | inl none ↦ absurd (none_some (payload, after) (sym (ap (λ (o : Option ℕ). option_map_or (body_at before
           (drop 8 bytes)) o None) none) ∙ e))
       | inr some ↦
@@ -123,52 +112,27 @@ pub sealed_is : (before payload tail found behind : List ℕ)
     → sealed_at (digest before payload) payload tail ≡ Some (found, behind)
     → (payload ≡ found) × (tail ≡ digest before payload ++ behind)
 unfolding sealed_at
-sealed_is before payload tail found behind e =
-    let seal = digest before payload in
-    let s = cond_some (starts_with eqb tail seal) (payload, drop (length seal) tail) (found, behind) e in (
-      ap (λ (x : List ℕ × List ℕ). x.0) s.1,
-      (starts_is Decides-eqb tail seal _ refl).0 s.0
-          ∙ ap (λ (l : List ℕ). seal ++ l) (ap (λ (x : List ℕ × List ℕ). x.1) s.1),
-    )
+sealed_is before payload tail found behind e = grind (arith, Decides-eqb, cond_some, starts_is)
 
 -- ---- a frame passes
 
 sealed_again : (seal payload rest : List ℕ) → sealed_at seal payload (seal ++ rest) ≡ Some (payload, rest)
 unfolding sealed_at
-sealed_again seal payload rest =
-    let starts : starts_with eqb (seal ++ rest) seal ≡ true = (starts_is Decides-eqb
-    (seal ++ rest) seal _ refl).1 rest refl in
-    rw (starts, drop_at seal rest (length seal) refl) refl
+sealed_again seal payload rest = grind (arith, Decides-eqb, drop_at, starts_is)
 
 body_again : (before payload tail : List ℕ)
     → body_at before (payload ++ tail) (length payload) ≡ sealed_at (digest before payload) payload tail
 unfolding body_at
-body_again before payload tail =
-    let long : ltb (length (payload ++ tail)) (length payload) ≡ false = le-ltb _ _ (omega
-    (arith, length-append payload tail)) in
-    rw (long, take_at payload tail (length payload) refl, drop_at payload tail (length payload) refl) refl
+body_again before payload tail = grind (arith, drop_at, le-ltb, length-append, take_at)
 
 size_is : (bytes : List ℕ) (n : ℕ) → 8 ≤ length bytes → from_le_bytes w32 (take 4 bytes) ≡ n
     → from_le_bytes w32 (take 4 (drop 4 bytes)) ≡ 4294967295 - n → size_at bytes ≡ Some n
 unfolding size_at checked_size
-size_is bytes n le low high =
-    let long : ltb (length bytes) 8 ≡ false = le-ltb _ _ le in
-    let same : eqb (4294967295 - n) (4294967295 - n) ≡ true = eq-eqb (4294967295 - n) (4294967295 - n) refl in
-    rw (long, low, high, same) refl
+size_is bytes n le low high = grind (arith, eq-eqb, le-ltb)
 
 pub size_again : (n : ℕ) (rest : List ℕ) → n < 2 ^ 32 → size_at (size n ++ rest) ≡ Some n
 unfolding size
-size_again n rest short =
-    let low = to_le_bytes w32 n in
-    let high = to_le_bytes w32 (4294967295 - n) in
-    let grouped : (low ++ high) ++ rest ≡ low ++ (high ++ rest) = append_assoc low high rest in
-    ap size_at grouped ∙ size_is (low ++ (high ++ rest)) n
-    (omega (arith, length-append low (high ++ rest), length-append high rest))
-    (ap (λ (l : List ℕ). from_le_bytes w32 l) (take_at low (high ++ rest) 4 refl)
-    ∙ from_le_bytes-to_le_bytes_4 n short)
-    (ap (λ (l : List ℕ). from_le_bytes w32 (take 4 l)) (drop_at low (high ++ rest) 4 refl)
-    ∙ ap (λ (l : List ℕ). from_le_bytes w32 l) (take_at high rest 4 refl)
-    ∙ from_le_bytes-to_le_bytes_4 (4294967295 - n) (omega arith))
+size_again n rest short = grind (arith, drop_at, from_le_bytes-to_le_bytes_4, length-append, size_is, take_at)
 
 pub length_size : (n : ℕ) → length (size n) ≡ 8
 unfolding size
@@ -186,5 +150,4 @@ frame_again before payload rest short =
     ∙ ap (λ (o : Option ℕ). option_map_or (body_at before (drop 8 (head ++ (payload ++ (seal ++ rest))))) o None)
     (size_again (length payload) (payload ++ (seal ++ rest)) short)
     ∙ ap (λ (l : List ℕ). body_at before l (length payload)) (drop_at head (payload ++ (seal ++ rest)) 8 long)
-    ∙ body_again before payload (seal ++ rest)
-    ∙ sealed_again seal payload rest
+    ∙ body_again before payload (seal ++ rest) ∙ sealed_again seal payload rest

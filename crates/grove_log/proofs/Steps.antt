@@ -1,11 +1,11 @@
 -- Reading goes on behind a frame that passes, and ends where none does: there all bytes are left.
-use Rattle.std.proofs.Common.{◌≡◌, ℕ, zero, suc, ◌≤◌, List, [], length, Option, Some, None, refl, sym}
-use Rattle.std.proofs.Common.{ap}
-use Rattle.std.proofs.Common.{◌∙◌, arith, inl, inr}
+use Rattle.std.proofs.Common.{◌≡◌, ℕ, zero, suc, ◌≤◌, List, [], length, Option, Some, None, refl, sym, ap, ◌∙◌, arith}
+use Rattle.std.proofs.Common.{inl, inr}
 use Rattle.std.specs.Option.{option_map_or}
 use Rattle.grove_log.specs.Frames.{digest, frame_at}
 use Rattle.grove_log.specs.Readings.{Reading, with_payload, read_at, reading}
-use Rattle.grove_log.proofs.Passing.{is_found, frame_less}
+use Rattle.grove_log.proofs.Passing.{frame_less}
+use Rattle.grove_base.proofs.Lists.{there_or_none}
 
 abbrev pub ended : List ℕ → List ℕ → Reading
 ended before bytes = record { payloads = []; seal = before; rest = bytes }
@@ -13,11 +13,6 @@ ended before bytes = record { payloads = []; seal = before; rest = bytes }
 abbrev going_on : ℕ → List ℕ → List ℕ → Option (List ℕ × List ℕ) → Reading
 going_on most before bytes o = option_map_or (λ x. with_payload x.0 (read_at most (digest before x.0) x.1)) o
     (ended before bytes)
-
-step : (most : ℕ) (before bytes : List ℕ) → read_at (suc most) before bytes ≡ going_on most before bytes
-    (frame_at before bytes)
-unfolding read_at
-step most before bytes = refl
 
 none_read : (most : ℕ) (before bytes : List ℕ) → frame_at before bytes ≡ None
     → read_at most before bytes ≡ ended before bytes
@@ -27,11 +22,7 @@ none_read (suc most) before bytes none = ap (going_on most before bytes) none
 
 -- no frame is in no bytes
 pub empty_none : (before bytes : List ℕ) → length bytes ≤ 0 → frame_at before bytes ≡ None
-empty_none before bytes le =
-    elim (is_found (frame_at before bytes)) [
-      | inl none ↦ none
-      | inr found ↦ absurd (omega (arith, frame_less before bytes found.0.0 found.0.1 found.1))
-    ]
+empty_none before bytes le = grind (arith, frame_less, there_or_none)
 
 -- so many frames are enough
 enough : (most more : ℕ) (before bytes : List ℕ) → length bytes ≤ most → length bytes ≤ more
@@ -39,16 +30,13 @@ enough : (most more : ℕ) (before bytes : List ℕ) → length bytes ≤ most �
 unfolding read_at
 enough zero more before bytes le le' =
     let none = empty_none before bytes le in none_read zero before bytes none ∙ sym (none_read more before bytes none)
-enough (suc most) zero before bytes le le' =
-    let none = empty_none before bytes le' in
-    none_read (suc most) before bytes none ∙ sym (none_read zero before bytes none)
+enough (suc most) zero before bytes le le' = grind (arith, empty_none, none_read)
 enough (suc most) (suc more) before bytes le le' =
-    elim (is_found (frame_at before bytes)) [
+    elim (there_or_none (frame_at before bytes)) [
       | inl none ↦ none_read (suc most) before bytes none ∙ sym (none_read (suc more) before bytes none)
       | inr found ↦
           let less = frame_less before bytes found.0.0 found.0.1 found.1 in
-          ap (going_on most before bytes) found.1
-          ∙ ap (with_payload found.0.0)
+          ap (going_on most before bytes) found.1 ∙ ap (with_payload found.0.0)
           (enough most more (digest before found.0.0) found.0.1 (omega (arith, less)) (omega (arith, less)))
           ∙ sym (ap (going_on more before bytes) found.1)
     ]
@@ -75,7 +63,7 @@ no_more : (most : ℕ) (before bytes : List ℕ) → length (read_at most before
 unfolding read_at
 no_more zero before bytes = omega arith
 no_more (suc most) before bytes =
-    elim (is_found (frame_at before bytes)) [
+    elim (there_or_none (frame_at before bytes)) [
       | inl none ↦ omega (arith, ap (λ (r : Reading). length r.rest) (none_read (suc most) before bytes none))
       | inr found ↦ omega (
         arith,
@@ -89,7 +77,7 @@ no_more (suc most) before bytes =
 pub all_left : (before bytes : List ℕ) → length (reading before bytes).rest ≡ length bytes
     → (reading before bytes).payloads ≡ []
 all_left before bytes all =
-    elim (is_found (frame_at before bytes)) [
+    elim (there_or_none (frame_at before bytes)) [
       | inl none ↦ ap (λ (r : Reading). r.payloads) (reading_none before bytes none)
       | inr found ↦
           let here = reading_more before bytes found.0.0 found.0.1 found.1 in
@@ -106,7 +94,7 @@ all_left before bytes all =
 pub less_left : (before bytes : List ℕ) → (length (reading before bytes).rest ≡ length bytes → ⊥)
     → (payload after : List ℕ) × (frame_at before bytes ≡ Some (payload, after))
 less_left before bytes less =
-    elim (is_found (frame_at before bytes)) [
+    elim (there_or_none (frame_at before bytes)) [
       | inl none ↦ absurd (less (ap (λ (r : Reading). length r.rest) (reading_none before bytes none)))
       | inr found ↦ (found.0.0, found.0.1, found.1)
     ]

@@ -27,8 +27,7 @@ abbrev pub version_of : List ℕ → ℕ
 version_of file = from_le_bytes w32 (take 4 (drop 8 file))
 
 abbrev pub damage_of : ℕ → Reading → Option Unreadable
-damage_of length_of_file r =
-    if is_damaged r.seal r.rest then Some (Damaged (length_of_file - length r.rest)) else None
+damage_of length_of_file r = if is_damaged r.seal r.rest then Some (Damaged (length_of_file - length r.rest)) else None
 
 -- what is wrong with a file's head, if anything
 unfoldable pub head_fault : List ℕ → Option Unreadable
@@ -52,5 +51,4 @@ pub record IsWhole (file : List ℕ) : Type 0 where
 
 -- the bytes are a frame that is chained to the file's last
 abbrev pub IsNextFrame : List ℕ → List ℕ → Type 0
-IsNextFrame file bytes =
-    (payload : List ℕ) × (length payload < 2 ^ 32) × (bytes ≡ frame (reading_of file).seal payload)
+IsNextFrame file bytes = (payload : List ℕ) × (length payload < 2 ^ 32) × (bytes ≡ frame (reading_of file).seal payload)

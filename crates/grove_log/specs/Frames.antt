@@ -1,5 +1,5 @@
 -- A payload as it stands in a log's file, and what passes for one there.
-use Rattle.std.specs.Prelude.{ℕ, ◌+◌, ◌-◌, List, ◌++◌, length, take, drop, Option, Some, None, Bool, is_some, ◌==◌}
+use Rattle.std.specs.Prelude.{ℕ, ◌-◌, List, ◌++◌, length, take, drop, Option, Some, None, Bool, is_some, ◌==◌}
 use Rattle.std.specs.Prelude.{nat_eq, nat_lt, if◌then◌else◌}
 use Rattle.std.specs.Int.{w32, to_le_bytes, from_le_bytes}
 use Rattle.std.specs.List.{starts_with}
@@ -29,8 +29,7 @@ size_at bytes =
 
 -- the payload of the frame at the front of bytes, and what stands behind it, where a frame chained to `before` is there
 unfoldable pub sealed_at : List ℕ → List ℕ → List ℕ → Option (List ℕ × List ℕ)
-sealed_at seal payload tail =
-    if starts_with nat_eq tail seal then Some (payload, drop (length seal) tail) else None
+sealed_at seal payload tail = if starts_with nat_eq tail seal then Some (payload, drop (length seal) tail) else None
 
 unfoldable pub body_at : List ℕ → List ℕ → ℕ → Option (List ℕ × List ℕ)
 body_at before body n =

@@ -1,6 +1,5 @@
 //! Payloads behind one another in a file, each acknowledged after one sync.
-ghost use Rattle.std.specs.Prelude.{◌≡◌, ◌<◌, ◌^◌, ◌++◌, [], ◌∷◌, length, false, IsTrue, OnOk, IfOk, IfErr};
-ghost use Rattle.std.specs.Prelude.{IsErrOf};
+ghost use Rattle.std.specs.Prelude.{◌≡◌, ◌<◌, ◌^◌, ◌++◌, [], ◌∷◌, length, false, IsTrue, OnOk, IfOk, IfErr, IsErrOf};
 ghost use Rattle.grove_log.specs.Devices.{Only, LeavesOnly};
 ghost use Rattle.grove_log.specs.Files.{head, recovered};
 ghost use Rattle.grove_log.specs.Frames.{size};

@@ -1,4 +1,4 @@
-use Rattle.std.proofs.Common.{List, ℕ, length, refl, sym, ap, ◌∙◌, arith, take, drop}
+use Rattle.std.proofs.Common.{List, ℕ, refl, sym, ap, ◌∙◌, arith, take, drop}
 use Rattle.std.proofs.lemmas.List.{length-append, take_at, drop_at}
 use Rattle.grove_log.specs.Frames.{digest}
 use Rattle.grove_log.proofs.Passing.{sealed_is}
@@ -6,18 +6,7 @@ use Rattle.grove_log.proofs.Fronts.{length_digest}
 use Rattle.grove_log.proofs.frame.passed_at.Goals as goal
 
 pub returns-then-tail-lt32 : goal.returns-then-tail-lt32
-returns-then-tail-lt32 c = λ before payload behind found.
-    let cut = c.in_ok-payload.field-0 in
-    let seal = digest before cut.payload.now in
-    let is = sealed_is before cut.payload.now cut.tail.now payload behind (sym (c.in_ok-payload.ensures before)
-    ∙ found) in
-    absurd (omega (
-      arith,
-      c.if-tail-lt32.true,
-      ap length is.1,
-      length-append seal behind,
-      length_digest before cut.payload.now,
-    ))
+returns-then-tail-lt32 c = grind (arith, length-append, length_digest, sealed_is)
 
 pub returns : goal.returns
 returns c = λ before payload behind found.

@@ -1,18 +1,14 @@
-use Rattle.std.proofs.Common.{◌≡◌, length, refl, sym, ◌∙◌, rules}
+use Rattle.std.proofs.Common.{◌≡◌, length, refl, sym, ◌∙◌, rules, arith}
 use Rattle.grove_log.proofs.Calls.{before_restart, in_write, in_rename}
-use Rattle.grove_log.proofs.Crash.{alone, same_some, file_is}
+use Rattle.grove_log.proofs.Crash.{alone, file_is}
+use Rattle.std.proofs.lemmas.Option.{same_Some}
 use Rattle.grove_log.proofs.log.Log.restart.Goals as goal
 
 pub returns-in_err-bytes-clause-any_moment : goal.returns-in_err-bytes-clause-any_moment
-returns-in_err-bytes-clause-any_moment g c = λ is_open.
-    before_restart g.F.Device.seen g.F.Device.may_leave g.F.Device.moment g.F.Device.left_since
-    g.met.F.Device.only_now c.args.self.now.device c.args.payload.now (c.requires.ready is_open).0
+returns-in_err-bytes-clause-any_moment g c = grind (arith, before_restart)
 
 pub returns-in_err-write_next-clause-any_moment : goal.returns-in_err-write_next-clause-any_moment
-returns-in_err-write_next-clause-any_moment g c = λ is_open.
-    in_write g.F.Device.seen g.F.Device.may_leave g.F.Device.moment g.F.Device.left_since
-    g.met.F.Device.only_now c.args.self.now.device c.args.payload.now (c.requires.ready is_open).0
-    c.write_next.new.self c.write_next.ensures.crash c.write_next.ensures.time
+returns-in_err-write_next-clause-any_moment g c = grind (arith, in_write)
 
 pub returns-in_err-rename_next-clause-any_moment : goal.returns-in_err-rename_next-clause-any_moment
 returns-in_err-rename_next-clause-any_moment g c = λ is_open.
@@ -43,7 +39,7 @@ returns-clause-acknowledged g c =
     (c.deref.ensures.value ∙ c.in_ok-bytes.ensures) c.of-seal.ensures in
     let d = alone c.args.number.now.bytes c.args.payload.now (g.F.Device.seen c.rename_next.new.self) long
     c.requires.short
-    (same_some _ _ (sym c.in_ok-rename_next.ensures.renamed ∙ c.in_ok-write_next.ensures.next) ∙ is_file) in (
+    (same_Some _ _ (sym c.in_ok-rename_next.ensures.renamed ∙ c.in_ok-write_next.ensures.next) ∙ is_file) in (
       refl,
       record {
         file = d.whole;

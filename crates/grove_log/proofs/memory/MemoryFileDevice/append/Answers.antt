@@ -28,6 +28,5 @@ returns-in_err-replace-clause-crash c = λ f now.
     let bytes = c.args.bytes.now in (
       old,
       refl,
-      subst (λ (l : List ℕ). Torn bytes old l) (sym (now ∙ c.in_err-replace.ensures.err))
-          (torn_not bytes old),
+      subst (λ (l : List ℕ). Torn bytes old l) (sym (now ∙ c.in_err-replace.ensures.err)) (torn_not bytes old),
     )
