@@ -20,8 +20,7 @@ event_of numbers bytes =
     let good = slice_index numbers 1 == 1 in
     if kind == 0 then Found bytes else
     (if kind == 1 then Appended good bytes else
-    (if kind == 2 then Synced good else
-    (if kind == 3 then NextWritten good bytes else Renamed good)))
+    (if kind == 2 then Synced good else (if kind == 3 then NextWritten good bytes else Renamed good)))
 
 -- the file beside it, if it was just written
 abbrev pub next_of : List Event → Option (List ℕ)
