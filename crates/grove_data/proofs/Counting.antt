@@ -1,18 +1,18 @@
 -- One element more of what a loop puts.
-use Rattle.std.proofs.Common.{◌≡◌, ℕ, zero, suc, ◌+◌, ◌^◌, ◌<◌, ◌≤◌, ℤ, List, [], ◌∷◌, ◌++◌, length, take, get_or, map}
-use Rattle.std.proofs.Common.{Option, Result, Ok, Err, IfOk, IfErr, pos, refl, sym, ap, ap₂, subst, ◌∙◌, arith}
-use Rattle.std.proofs.Common.{append_assoc, add-one, Fits}
+use Rattle.std.proofs.Common.{◌≡◌, ℕ, zero, suc, ◌+◌, ◌^◌, ◌<◌, ◌≤◌, List, [], ◌∷◌, ◌++◌, length, take, get_or, map}
+use Rattle.std.proofs.Common.{Option, Result, Ok, Err, IfOk, IfErr, refl, sym, ap, ap₂, subst, ◌∙◌, arith}
+use Rattle.std.proofs.Common.{add-one, Fits}
 use Rattle.std.specs.Prelude.{All, FitsSigned, Vec}
 use Rattle.std.specs.Result.{IsErrAnd}
 use Rattle.std.specs.Str.{IsUtf8}
 use Rattle.std.specs.declared.alloc.Global.{Global}
-use Rattle.std.specs.Int.{w64, cast_unsigned, cast_signed}
+use Rattle.std.specs.Int.{w64, cast_signed}
 use Rattle.std.proofs.lemmas.Int.{of_z-to_z}
-use Rattle.std.proofs.lemmas.List.{map_more, take_more, length-map, map-append}
+use Rattle.std.proofs.lemmas.List.{length-map, map-append}
 use Rattle.std.proofs.Math.ListN.{get_or-map}
-use Rattle.std.proofs.lemmas.List.Elements.{All-more, All-head, All-tail, All-map, All-from_get_or}
+use Rattle.std.proofs.lemmas.List.Elements.{All-head, All-tail, All-map, All-from_get_or}
 use Rattle.std.proofs.Math.Facts.{sfits_to_z}
-use Rattle.grove_tree.specs.Trees.{Rows, parent_of, name_of, weight_of}
+use Rattle.grove_tree.specs.Trees.{Rows, parent_of, name_of}
 use Rattle.grove_tree.specs.Weights.{unweighed, weights_of}
 use Rattle.grove_tree.specs.BuiltRows.{rows_of}
 use Rattle.grove_tree.specs.declared.fault.TreeFault.{TreeFault}
@@ -29,23 +29,12 @@ use Rattle.grove_data.specs.Parts.{IsFor, tree_fault_said}
 use Rattle.grove_data.specs.declared.reading.NoStoreThere.{NoStoreThere}
 use Rattle.grove_data.specs.declared.reading.NoStoreThere.TheVariants.{Memory, Unreadable, Unfit}
 
--- one element more stands behind what was put
-pub put_more : (out old new more : List ℕ) (last : ℕ) → new ≡ old ++ last ∷ [] → old ≡ out ++ more
-    → new ≡ out ++ (more ++ last ∷ [])
-put_more out old new more last is put =
-    is ∙ ap (λ (l : List ℕ). l ++ last ∷ []) put ∙ append_assoc out more (last ∷ [])
-
 pub names_more : (rows : Rows) (n : ℕ) → n < length rows
     → unweighed (take (suc n) rows) ≡ unweighed (take n rows) ++ (parent_of rows n, name_of rows n) ∷ []
 names_more [] n lt = absurd (omega arith)
 names_more (row ∷ rows) zero lt = refl
 names_more (row ∷ rows) (suc n) lt =
     ap (λ (l : Names). (row.parent, row.name) ∷ l) (names_more rows n (omega arith))
-
--- the bits of the first records were put, each of which is one of 64 bits
-pub record ArePut (out : List ℕ) (records : List ℤ) (n : ℕ) (now : List ℕ) : Type 0 where
-  pub numbers : now ≡ out ++ bits_of (take n records)
-  pub fit : All (FitsSigned w64) (take n records)
 
 -- rows of the first names and weights
 pub record AreRowsOf (names : List NodeName) (weighing : List ℕ) (n : ℕ) (rows : List Row) : Type 0 where
@@ -66,29 +55,6 @@ bits_again (word ∷ words) small =
     (bits_again words (All-tail P word words small))
 
 -- ---- one more
-
-pub put_record : (out old new : List ℕ) (records : List ℤ) (n bits : ℕ) (value : ℤ) → n < length records
-    → FitsSigned w64 value → value ≡ get_or records n (pos 0) → bits ≡ cast_unsigned w64 value
-    → ArePut out records n old → new ≡ old ++ bits ∷ [] → ArePut out records (n + 1) new
-put_record out old new records n bits value lt fits is cast put pushed = record {
-  numbers = put_more out old new (bits_of (take n records)) bits pushed put.numbers
-      ∙ ap (λ (b : ℕ). out ++ (bits_of (take n records) ++ b ∷ [])) (cast ∙ ap (cast_unsigned w64) is)
-      ∙ ap (λ (l : List ℕ). out ++ l) (sym (map_more (cast_unsigned w64) records n (pos 0) lt));
-  fit = All-more (FitsSigned w64) records n (pos 0) lt put.fit (subst (FitsSigned w64) is fits);
-}
-
-weight_there : (rows : Rows) (node : ℕ) → get_or (weights_of rows) node 0 ≡ weight_of rows node
-weight_there [] node = refl
-weight_there (row ∷ rows) zero = refl
-weight_there (row ∷ rows) (suc node) = weight_there rows node
-
-pub put_weight : (out old new : List ℕ) (rows : Rows) (n weight : ℕ) → n < length rows → weight ≡ weight_of rows n
-    → old ≡ out ++ take n (weights_of rows) → new ≡ old ++ weight ∷ [] → new ≡ out ++ take (n + 1) (weights_of rows)
-put_weight out old new rows n weight lt is put pushed =
-    let long : length (weights_of rows) ≡ length rows = length-map rows _ in
-    put_more out old new (take n (weights_of rows)) weight pushed put
-    ∙ ap (λ (w : ℕ). out ++ (take n (weights_of rows) ++ w ∷ [])) (is ∙ sym (weight_there rows n))
-    ∙ ap (λ (l : List ℕ). out ++ l) (sym (take_more (weights_of rows) n 0 (omega arith)))
 
 pub put_name : (old new : List NodeName) (node : NodeName) (rows : Rows) (n : ℕ) → n < length rows
     → node.parent ≡ parent_of rows n → node.name.items ≡ name_of rows n → names_of old ≡ unweighed (take n rows)

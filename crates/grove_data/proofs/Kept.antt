@@ -6,7 +6,7 @@ use Rattle.std.specs.declared.alloc.Global.{Global}
 use Rattle.std.proofs.lemmas.List.{length-append}
 use Rattle.std.specs.List.{flat_map}
 use Rattle.std.specs.Int.{w64}
-use Rattle.grove_log.specs.Devices.{Only, LeavesOnly}
+use Rattle.grove_log.specs.Devices.{LeavesOnly}
 use Rattle.grove_log.specs.Files.{recovered, StandsFor}
 use Rattle.grove_log.specs.Logs.{IsSettled, IsOldOrNew}
 use Rattle.grove_log.specs.declared.log.Log.{Log}
@@ -90,17 +90,6 @@ module _ {D : Type 0} (moment : D → ℕ) (left_since : D → ℕ → List ℕ 
     before = λ t c le left. ⊎_elim (λ earlier. inl earlier) (λ p. inr (so c p)) (leaves.before t c le left);
   }
 
-  -- nothing was asked of the device
-  pub at_rest : (seen : D → List ℕ) (may_leave : D → List ℕ → Type 0)
-      → ((file : D) (c : List ℕ) → left_since file (moment file) c → may_leave file c)
-      → (device : D) (P : List ℕ → Type 0) → Only (seen device) (may_leave device) → P (seen device)
-      → LeavesOnly moment left_since device device P
-  at_rest seen may_leave only_now device P durable here = record {
-    later = omega arith;
-    each = λ c left. subst P (sym (durable c (only_now device c left))) here;
-    before = λ t c le left. inl left;
-  }
-
 -- ---- keeping
 
 module _ {D : Type 0} (seen : D → List ℕ) (may_leave : D → List ℕ → Type 0) (faults : D → ℕ) where
@@ -110,9 +99,9 @@ module _ {D : Type 0} (seen : D → List ℕ) (may_leave : D → List ℕ → Ty
   opens_now held store keeps =
       record { readable = keeps.settled.file.readable; is_store = keeps.is_store; stands = keeps.stands }
 
-  -- nothing that is kept changed
+  -- nothing in the file changed
   pub kept_same : (held new : Data D) (before after : StoreState) → Keeps seen may_leave faults held before
-      → new.log ≡ held.log → new.names ≡ held.names → new.kept ≡ held.kept → IsSuccessor before after
+      → new.log ≡ held.log → new.names ≡ held.names → new.kept.items ≡ numbers_of after → IsSuccessor before after
       → numbers_of after ≡ numbers_of before → All (FitsSigned w64) after.records
       → Keeps seen may_leave faults new after
   kept_same held new before after keeps log names kept next numbers fit =
@@ -124,7 +113,7 @@ module _ {D : Type 0} (seen : D → List ℕ) (may_leave : D → List ℕ → Ty
         stands = subst (λ (l : Log D). IsStoreIn (recovered (seen l.device)) after) (sym log) same;
         names = ap (λ (v : Vec ℕ Global). v.items) names ∙ keeps.names
             ∙ ap (λ (n : Names). snapshot n []) (sym next.names);
-        numbers = ap (λ (v : Vec ℕ Global). v.items) kept ∙ keeps.numbers ∙ sym numbers;
+        numbers = kept;
       }
 
   -- the payloads that were written stand for the next store

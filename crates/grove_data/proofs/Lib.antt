@@ -6,4 +6,5 @@ pub mod Named
 pub mod Words
 pub mod Kept
 pub mod Counting
+pub mod Keeping
 pub mod Led

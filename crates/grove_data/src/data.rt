@@ -15,13 +15,12 @@ ghost use Rattle.grove_data.specs.Files.{OpensAs, OpensWith, IsOldOrOpens};
 ghost use Rattle.grove_data.specs.Parts.{AreNext, IsOldOrNext};
 
 use crate::naming::names_of;
-use crate::numbers::put_numbers;
+use crate::numbers::keep_store;
 use grove_base::NoMemory;
-use grove_effects::{push_effect, push_names, push_numbers};
+use grove_effects::{push_names, push_numbers};
 use grove_log::{Folder, Log, LogError, Seal};
 use grove_store::{Keeper, Store, Unkept};
 use std::alloc::Global;
-use std::mem::swap;
 
 /// Effects may always take so many bytes before a new snapshot takes their place.
 const FEW_BYTES: u64 = 4 * 1024 * 1024;
@@ -41,10 +40,9 @@ pub struct Data<F: Folder> {
     log: Log<F>,
     /// The names of the nodes, as a snapshot begins with them. They never change.
     names: Vec<u8>,
-    /// The numbers of the store that is kept.
+    /// The numbers of the store that is kept. Once it has failed, nothing is known of them.
     kept: Vec<u64>,
-    /// Those of the store that comes next. Nothing is known of them, nor of the payload, between two calls.
-    next: Vec<u64>,
+    /// Nothing is known of it between two calls.
     payload: Vec<u8>,
     /// How many bytes the snapshot's payload takes, and the frames behind it.
     snapshot: u64,
@@ -79,9 +77,9 @@ fn opening_of(alloc: Global, store: &Store) -> Result<Opening, NoMemory>
 {
     let mut names = Vec::new(alloc);
     push_names(&mut names, &names_of(alloc, store.tree())?)?;
-    let mut numbers = Vec::new(alloc);
-    put_numbers(&mut numbers, store)?;
+    let mut numbers = vec![in alloc; 0; 3 * store.tree().len() as usize + 1]?;
     let mut payload = Vec::new(alloc);
+    keep_store(&mut payload, &mut numbers, store)?;
     put_snapshot(&mut payload, &names, &numbers)?;
     Ok(Opening {
         names,
@@ -120,23 +118,22 @@ impl<F: Folder> Data<F> {
         self.behind > FEW_BYTES && self.behind > self.snapshot.saturating_mul(SNAPSHOTS)
     }
 
-    /// Puts the payload behind those in the log, or the snapshot of the next numbers in their place.
+    /// Puts the payload behind those in the log, or the snapshot of the kept numbers in their place.
     fn write(&mut self, alloc: Global) -> Result<(), LogError>
         requires settled { IsTrue self.old.log.accepts × IsSettled F.seen F.may_leave F.faults self.old.log }
         requires short { length self.old.payload.items < 2 ^ 32 }
-        requires whole { length self.old.names.items + 8 * length self.old.next.items < 2 ^ 32 }
+        requires whole { length self.old.names.items + 8 * length self.old.kept.items < 2 ^ 32 }
         ensures acknowledged { OnOk result (IsTrue self.new.log.accepts
             × IsSettled F.seen F.may_leave F.faults self.new.log
             × AreNext (recovered (F.seen self.old.log.device)) self.old.payload.items
-            (self.old.names.items ++ flat_map word self.old.next.items) (recovered (F.seen self.new.log.device))) }
+            (self.old.names.items ++ flat_map word self.old.kept.items) (recovered (F.seen self.new.log.device))) }
         ensures any_moment { LeavesOnly F.moment F.left_since self.old.log.device self.new.log.device
             (IsOldOrNext (recovered (F.seen self.old.log.device)) self.old.payload.items
-            (self.old.names.items ++ flat_map word self.old.next.items)) }
-        ensures same { (self.new.names ≡ self.old.names) × (self.new.kept ≡ self.old.kept)
-            × (self.new.next ≡ self.old.next) }
+            (self.old.names.items ++ flat_map word self.old.kept.items)) }
+        ensures same { (self.new.names ≡ self.old.names) × (self.new.kept ≡ self.old.kept) }
     {
         if self.is_long() {
-            put_snapshot(&mut self.payload, &self.names, &self.next)?;
+            put_snapshot(&mut self.payload, &self.names, &self.kept)?;
             let number = self.log.seal;
             self.log.restart(alloc, &number, &self.payload)?;
             self.snapshot = self.payload.len() as u64;
@@ -160,16 +157,12 @@ impl<F: Folder> Data<F> {
             → LeavesOnly F.moment F.left_since (device_of self.old) (device_of self.new)
             (OpensWith (λ left. (left ≡ before) ⊎ (left ≡ store.now))) }
     {
-        self.next.clear();
-        put_numbers(&mut self.next, store)?;
         self.payload.clear();
-        push_effect(&mut self.payload, &self.kept, &self.next)?;
+        keep_store(&mut self.payload, &mut self.kept, store)?;
         if self.payload.is_empty() {
             return Ok(());
         }
-        self.write(alloc)?;
-        swap(&mut self.kept, &mut self.next);
-        Ok(())
+        self.write(alloc)
     }
 }
 
@@ -207,7 +200,6 @@ impl<F: Folder + Drop> Data<F> {
             log,
             names,
             kept: numbers,
-            next: Vec::new(alloc),
             payload,
             snapshot,
             behind: 0,

@@ -7,10 +7,10 @@ use Rattle.std.proofs.lemmas.List.Elements.{All-nil, All-cons, All-head, All-tai
 use Rattle.grove_effects.specs.Effects.{AreWords, change_at, changes_from}
 use Rattle.grove_effects.proofs.Fronts.{IsChange, same_cons}
 
-pub change_none : (p o n : ℕ) → o ≡ n → change_at p o n ≡ []
+change_none : (p o n : ℕ) → o ≡ n → change_at p o n ≡ []
 change_none p o n same = rw (eq-eqb o n same) refl
 
-pub change_one : (p o n : ℕ) → (o ≡ n → ⊥) → change_at p o n ≡ (p, n) ∷ []
+change_one : (p o n : ℕ) → (o ≡ n → ⊥) → change_at p o n ≡ (p, n) ∷ []
 change_one p o n other = rw (ne_eqb o n other) refl
 
 -- the first numbers are one, or they are the first change
@@ -41,19 +41,13 @@ changes-append p (o ∷ os) (n ∷ ns) xs ys long =
     ∙ ap (λ (q : ℕ). changes_from (suc p) os ns ++ changes_from q xs ys) place)
     ∙ sym (append_assoc (change_at p o n) (changes_from (suc p) os ns) (changes_from (p + suc (length os)) xs ys))
 
--- what changes with one more number
-pub changes_push : (p : ℕ) (os ns : List ℕ) (o n : ℕ) → length os ≡ length ns
-    → changes_from p (os ++ o ∷ []) (ns ++ n ∷ []) ≡ changes_from p os ns ++ change_at (p + length os) o n
-changes_push p os ns o n long =
-    changes-append p os ns (o ∷ []) (n ∷ []) long
-    ∙ ap (λ (l : List (ℕ × ℕ)). changes_from p os ns ++ l) (append-nil (change_at (p + length os) o n))
-
--- the same where the number is another one
+-- what changes with one more number, which is another one
 pub changes_more : (p : ℕ) (os ns : List ℕ) (o n : ℕ) → length os ≡ length ns → (o ≡ n → ⊥)
     → changes_from p (os ++ o ∷ []) (ns ++ n ∷ []) ≡ changes_from p os ns ++ (p + length os, n) ∷ []
 changes_more p os ns o n long other =
-    changes_push p os ns o n long
-    ∙ ap (λ (l : List (ℕ × ℕ)). changes_from p os ns ++ l) (change_one (p + length os) o n other)
+    changes-append p os ns (o ∷ []) (n ∷ []) long
+    ∙ ap (λ (l : List (ℕ × ℕ)). changes_from p os ns ++ l)
+    (append-nil (change_at (p + length os) o n) ∙ change_one (p + length os) o n other)
 
 -- nothing changes where one list stands behind two others
 pub changes_behind : (p : ℕ) (os ns xs : List ℕ) → length os ≡ length ns

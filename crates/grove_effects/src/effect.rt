@@ -1,20 +1,42 @@
 //! Effects: what changed from some numbers to others.
-ghost use Rattle.std.specs.Prelude.{◌≡◌, ℕ, ◌<◌, ◌^◌, List, ◌++◌, length, IsOk, OnOk, IfOk, MatchResult};
-ghost use Rattle.grove_effects.specs.Effects.{AreWords, change_bytes, effect};
+ghost use Rattle.std.specs.Prelude.{◌≡◌, ℕ, ◌+◌, ◌<◌, ◌^◌, List, ◌++◌, length, slice_index, EachIndex, IsOk, OnOk};
+ghost use Rattle.std.specs.Prelude.{IfOk, MatchResult};
+ghost use Rattle.std.specs.List.{flat_map};
+ghost use Rattle.grove_effects.specs.Effects.{AreWords, change_at, change_bytes, changes_from, effect};
 
 use crate::number::{Unfit, split_half, split_word};
 use grove_base::NoMemory;
 
-/// Puts what changed. Nothing is put where nothing changed.
-pub fn push_effect(out: &mut Vec<u8>, old: &[u64], new: &[u64]) -> Result<(), NoMemory>
-    requires long { length old.now ≡ length new.now }
-    requires few { length old.now < 2 ^ 32 }
-    ensures { OnOk result (out.new.items ≡ out.old.items ++ effect old.now new.now) }
+/// Makes each kept number the one that `number` gives at its place among them, and puts what changed. The first of them
+/// stands at `first` among all.
+pub fn keep_numbers<F: Fn(u32) -> u64>(
+    out: &mut Vec<u8>,
+    first: u32,
+    kept: &mut [u64],
+    number: F,
+) -> Result<(), NoMemory>
+    requires callable { (place : ℕ) → place < length kept.old → F.pre number place }
+    requires few { first + length kept.old < 2 ^ 32 }
+    ensures changes { OnOk result (out.new.items
+        ≡ out.old.items ++ flat_map change_bytes (changes_from first kept.old kept.new)) }
+    ensures kept { OnOk result (EachIndex kept.new (λ place. F.post number place (slice_index kept.new place))) }
+    ensures long { length kept.new ≡ length kept.old }
 {
-    for (place, number) in new.iter().enumerate() {
-        if old[place] != *number {
-            push_change(out, place as u32, *number)?;
-        }
+    for place in 0..kept.len() as u32 {
+        keep_number(out, first + place, &mut kept[place as usize], number(place))?;
+    }
+    Ok(())
+}
+
+/// Makes a kept number this one, and puts the change, if it is one.
+fn keep_number(out: &mut Vec<u8>, place: u32, kept: &mut u64, number: u64) -> Result<(), NoMemory>
+    ensures change { OnOk result (out.new.items
+        ≡ out.old.items ++ flat_map change_bytes (change_at place kept.old number)) }
+    ensures kept { OnOk result (kept.new ≡ number) }
+{
+    if *kept != number {
+        push_change(out, place, number)?;
+        *kept = number;
     }
     Ok(())
 }

@@ -6,6 +6,6 @@ mod effect;
 mod number;
 mod snapshot;
 
-pub use effect::{apply_effect, push_effect};
+pub use effect::{apply_effect, keep_numbers};
 pub use number::{Unfit, push_numbers};
 pub use snapshot::{NodeName, Snapshot, SnapshotFault, push_names, read_snapshot};
