@@ -2,13 +2,13 @@ ghost use Rattle.std.specs.Prelude.{◌≡◌, ◌≤◌, false, length, IfOk};
 ghost use Rattle.std.specs.Io.KnownBytes.{ReadConsumes};
 
 use crate::{DeviceFault, Source};
-use std::io::{ErrorKind, Read};
+use std::io::{self, ErrorKind, Read};
 
-/// A source over a reader of std. An interrupted read is tried again.
+/// A source over a reader of std, which keeps the error of the read that failed. An interrupted read is tried again.
 #[derive(Debug, Drop)]
 pub struct ReaderSource<R> {
     reader: R,
-    failed: bool,
+    error: Option<io::Error>,
     reads: u64,
 }
 
@@ -20,28 +20,39 @@ impl<R: Read> ReaderSource<R> {
     {
         ReaderSource {
             reader,
-            failed: false,
+            error: None,
             reads: 0,
         }
+    }
+
+    /// The error of the latest read that failed.
+    pub fn error(&self) -> Option<io::Error> {
+        self.error
     }
 }
 
 impl<R: Read> Source for ReaderSource<R> {
+    ghost use Rattle.std.specs.Prelude.{is_some};
+
     ghost remaining = { λ source. R.remaining source.reader };
 
-    ghost has_failed = { λ source. source.failed };
+    ghost has_failed = { λ source. is_some source.error };
 
     ghost read_count = { λ source. source.reads };
 
     fn read(&mut self, buffer: &mut [u8]) -> Result<usize, DeviceFault> {
         self.reads = self.reads.saturating_add(1);
-        let result = read_through(&mut self.reader, buffer);
-        self.failed |= result.is_err();
-        result
+        match read_through(&mut self.reader, buffer) {
+            Ok(count) => Ok(count),
+            Err(error) => {
+                self.error = Some(error);
+                Err(DeviceFault)
+            }
+        }
     }
 
     fn failed(&self) -> bool {
-        self.failed
+        self.error.is_some()
     }
 
     fn reads(&self) -> u64 {
@@ -49,16 +60,15 @@ impl<R: Read> Source for ReaderSource<R> {
     }
 }
 
-fn read_through<R: Read>(reader: &mut R, buffer: &mut [u8]) -> Result<usize, DeviceFault>
+fn read_through<R: Read>(reader: &mut R, buffer: &mut [u8]) -> io::Result<usize>
     ensures bound { IfOk result (λ count. count ≤ length buffer.new) }
     ensures bytes { ReadConsumes (R.remaining reader.old) (R.remaining reader.new) result buffer.new }
 {
     for _ in 0..u64::MAX {
         match reader.read(buffer) {
-            Ok(count) => return Ok(count),
             Err(error) if error.kind() == ErrorKind::Interrupted => {}
-            Err(_) => return Err(DeviceFault),
+            result => return result,
         }
     }
-    Err(DeviceFault)
+    Err(io::Error::from(ErrorKind::Interrupted))
 }
