@@ -5,7 +5,6 @@ use Rattle.std.proofs.Common.{arith, length-append}
 use Rattle.std.specs.Prelude.{slice_get, nat_lt}
 use Rattle.std.specs.Io.KnownBytes.{IsAtEnd}
 use Rattle.std.proofs.lemmas.List.{length_push}
-use Rattle.std.proofs.lemmas.Option.{same_Some}
 use Rattle.std.proofs.lemmas.Bool.{cond-true, ltb-true, lt-ltb}
 use Rattle.std.proofs.Math.Seq.{take-length}
 use Rattle.grove_session.specs.declared.intake.Intake.{Intake}
@@ -30,14 +29,6 @@ held_more false line bytes short = refl
 -- more bytes of a line are as many more of what is held of it
 pub clip-grow : (line bytes : List ℕ) → with_bytes (clip line) bytes ≡ clip (line ++ bytes)
 clip-grow line bytes = held_more (nat_lt 1048576 (length line)) line bytes refl
-
-held_nothing : (b : Bool) (line : List ℕ) → ◌≡◌ {A = Option (List ℕ)} (cond b None (Some line)) (Some []) → line ≡ []
-held_nothing true line h = absurd (cc)
-held_nothing false line h = same_Some line [] h
-
--- where nothing is held, the line is empty
-pub clip-nothing : (line : List ℕ) → clip line ≡ Some [] → line ≡ []
-clip-nothing line h = held_nothing (nat_lt 1048576 (length line)) line h
 
 -- a sink that is blamed with what went out is blamed with the length of the text
 pub apart_tells : (fault : SessionFault) (after : Intake) (text : List ℕ) → IsApart {T = ℕ} (Err fault) after
@@ -251,18 +242,6 @@ module _ {S : Type 0} (shared : Bool) (lawful : Lawful S) where
       )
   ends_last first old new left input text more before Read at_end all under h counted = absurd h
   ends_last first old new left input text more before Turns at_end all under h counted = absurd h
-
-  -- where no line is held, all lines are answered
-  pub finishes_at_once : (old : S) (before : Intake) → held_line before.line ≡ Some []
-      → Finishes shared lawful old before (Ok before.answered) [] old before
-  finishes_at_once old before nothing = record {
-    ends = λ first input text left under at_end written apart.
-        let all = ap (λ (line : List ℕ). whole_lines input ++ last_line line) (clip-nothing (rest_of input) (sym under.held ∙ nothing)) ∙ append-nil (whole_lines input) in (
-          at_end,
-          under.answered ∙ ap (length {A = List ℕ}) (sym all),
-          subst (λ (ls : List (List ℕ)). IsAnswered lawful first ls (text ++ []) old) (sym all) (still first old old input text [] before under refl refl),
-        );
-  }
 
   -- a line that is held is a last one
   lines_with_last : (first old : S) (input text : List ℕ) (before : Intake) → IsUnderWay lawful first input text old before → (held_line before.line ≡ Some [] → ⊥)
