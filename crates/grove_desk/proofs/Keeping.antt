@@ -1,5 +1,5 @@
 -- A round more: rounds, noted or not, go on leading from the opening store to the last.
-use Rattle.std.proofs.Common.{◌≡◌, ℕ, ◌-◌, ◌^◌, ◌<◌, ◌≤◌, min, List, [], ◌∷◌, ◌++◌, length, map, take, get_or, ◌↔◌}
+use Rattle.std.proofs.Common.{◌≡◌, ℕ, ◌+◌, ◌-◌, ◌<◌, ◌≤◌, List, [], ◌∷◌, ◌++◌, length, map, take, get_or, ◌↔◌}
 use Rattle.std.proofs.Common.{Option, Some, None, refl, sym, ap, subst, ◌∙◌, append_assoc, append-nil, inl, inr, arith}
 use Rattle.std.proofs.Common.{length-append}
 use Rattle.std.specs.Prelude.{All, Bool, true, false, IsSome}
@@ -38,16 +38,18 @@ receipts_more [] round = append-nil round.receipts
 receipts_more (first ∷ rounds) round = ap (λ (rs : List ReceiptState). first.receipts ++ rs)
     (receipts_more rounds round) ∙ sym (append_assoc first.receipts (receipts_in rounds) round.receipts)
 
--- numbers go on from one list to the next
-numbered_on : (front back : List ReceiptState) → AreNumberedFrom (Some 0) front
-    → AreNumberedFrom (Some (min (length front) (2 ^ 64 - 1))) back → AreNumberedFrom (Some 0) (front ++ back)
-numbered_on front back are next place other lt = elim (cases_lt place (length front)) [
+-- numbers that go on behind others
+pub numbers_join : (first next : Option ℕ) (front back : List ReceiptState)
+    → ((place : ℕ) → number_at next place ≡ number_at first (length front + place)) → AreNumberedFrom first front
+    → AreNumberedFrom next back → AreNumberedFrom first (front ++ back)
+numbers_join first next front back on are more place other lt = elim (cases_lt place (length front)) [
   | inl before ↦ ap (λ (e : ReceiptState). e.number) (get_or_append_left front back other place before)
       ∙ are place other before
   | inr after ↦
       let long = length-append front back in
+      let here : length front + (place - length front) ≡ place = omega arith in
       ap (λ (e : ReceiptState). e.number) (get_or-append_right front back (length front) place other refl after)
-      ∙ next (place - length front) other (omega arith) ∙ omega arith
+      ∙ more (place - length front) other (omega arith) ∙ on (place - length front) ∙ ap (number_at first) here
 ]
 
 -- a journal with a round more is that of the store after it
@@ -63,8 +65,8 @@ journal_more opening journal round last is leads numbered = record {
       ∙ length-append (receipts_in journal.rounds) round.receipts in
       let so_far = is.counted in omega arith;
   numbered = subst (AreNumberedFrom (Some 0)) (sym (receipts_more journal.rounds round))
-      (numbered_on (receipts_in journal.rounds) round.receipts is.numbered
-      (subst (λ (n : ℕ). AreNumberedFrom (Some n) round.receipts) is.counted numbered));
+      (numbers_join (Some 0) (Some journal.lines) (receipts_in journal.rounds) round.receipts
+      (λ place. omega (arith, is.counted)) is.numbered numbered);
 }
 
 -- where a journal is kept, it goes on with a round more

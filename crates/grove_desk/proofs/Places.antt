@@ -1,29 +1,18 @@
 -- Receipts that stand among those of all rounds, and that are all of them where they are as many.
-use Rattle.std.proofs.Common.{◌≡◌, ℕ, zero, suc, ◌+◌, ◌-◌, ◌<◌, ◌≤◌, List, [], ◌∷◌, ◌++◌, length, drop, get_or, Option}
+use Rattle.std.proofs.Common.{◌≡◌, ℕ, zero, suc, ◌+◌, ◌-◌, ◌<◌, ◌≤◌, List, ◌++◌, length, drop, get_or, Option}
 use Rattle.std.proofs.Common.{Some, None, refl, sym, ap, subst, ◌∙◌, arith, Bor}
 use Rattle.std.specs.Prelude.{All, slice_get, MatchOption}
 use Rattle.std.specs.List.{HoldsAt}
 use Rattle.std.specs.Option.{option_copied}
 use Rattle.std.proofs.lemmas.List.{same_lists, drop_more}
 use Rattle.std.proofs.lemmas.Option.{slice_get_within, slice_get_past, slice_get-get_or, get_or_from_slice_get}
+use Rattle.grove_base.proofs.Lists.{get_append_at, get_append_left}
 use Rattle.grove_store.specs.StoreStates.{StoreState}
 use Rattle.grove_desk.specs.Receipts.{ReceiptState}
 use Rattle.grove_desk.specs.Histories.{RoundState, receipts_in, StandsIn, Ascend, IsHistory}
 use Rattle.grove_desk.specs.Ledgers.{JournalState, IsJournal}
 
 -- ---- the receipt of a number
-
--- a place in the first of two lists
-front : (xs ys : List ReceiptState) (i : ℕ) → i < length xs → slice_get (xs ++ ys) i ≡ slice_get xs i
-front [] ys i within = absurd (omega arith)
-front (x ∷ xs) ys zero within = refl
-front (x ∷ xs) ys (suc i) within = front xs ys i (omega arith)
-
--- a place in the second
-behind : (xs ys : List ReceiptState) (i j : ℕ) → i ≡ length xs + j → slice_get (xs ++ ys) i ≡ slice_get ys j
-behind [] ys i j at = ap (slice_get ys) (at ∙ omega arith)
-behind (x ∷ xs) ys zero j at = absurd (omega arith)
-behind (x ∷ xs) ys (suc i) j at = behind xs ys i j (omega arith)
 
 -- what a look-up of a place gives
 pub copied_at : (found : Option (Bor ReceiptState)) (receipts : List ReceiptState) (i : ℕ)
@@ -47,15 +36,17 @@ pub found_here : (rounds : List RoundState) (i : ℕ) (round : RoundState) (rest
     → slice_get round.receipts rest ≡ slice_get (receipts_in (drop i rounds)) rest
 found_here rounds i round rest count within is many here =
     sym (ap (λ (es : List ReceiptState). slice_get es rest) (rest_here rounds i round within is)
-    ∙ front round.receipts (receipts_in (drop (i + 1) rounds)) rest (omega arith))
+    ∙ get_append_left round.receipts (receipts_in (drop (i + 1) rounds)) rest (omega arith))
 
 -- a number behind them
 pub found_later : (rounds : List RoundState) (i : ℕ) (round : RoundState) (rest count : ℕ) → i < length rounds
     → round ≡ get_or rounds i round → count ≡ length round.receipts → count ≤ rest
     → slice_get (receipts_in (drop (i + 1) rounds)) (rest - count) ≡ slice_get (receipts_in (drop i rounds)) rest
 found_later rounds i round rest count within is many later =
+    let others = receipts_in (drop (i + 1) rounds) in
+    let at : rest ≡ length round.receipts + (rest - count) = omega arith in
     sym (ap (λ (es : List ReceiptState). slice_get es rest) (rest_here rounds i round within is)
-    ∙ behind round.receipts (receipts_in (drop (i + 1) rounds)) rest (rest - count) (omega arith))
+    ∙ ap (slice_get (round.receipts ++ others)) at ∙ get_append_at round.receipts others (rest - count))
 
 -- ---- as many receipts as there are
 

@@ -1,12 +1,11 @@
 -- Rounds that follow one another: what they answer together, what a journal has of them, and what they lead to.
 use Rattle.std.proofs.Common.{◌≡◌, ℕ, suc, ◌+◌, ◌-◌, ◌<◌, ◌≤◌, List, [], ◌∷◌, ◌++◌, length, map, take, drop}
-use Rattle.std.proofs.Common.{get_or}
-use Rattle.std.proofs.Common.{Option, Some, None, refl, sym, ap, subst, ◌∙◌, append-nil, inl, inr, arith}
-use Rattle.std.proofs.Common.{length-append, length-drop}
+use Rattle.std.proofs.Common.{get_or, Option, Some, None, refl, sym, ap, subst, ◌∙◌, append-nil, arith, length-append}
+use Rattle.std.proofs.Common.{length-drop}
 use Rattle.std.specs.Prelude.{All, Bool, Result, Ok, Err, IsOk, OnOk, OnErr, IfSome, is_ok, is_err, false}
 use Rattle.std.specs.Prelude.{if◌then◌else◌, option_to_list}
 use Rattle.std.specs.Option.{option_map, is_some}
-use Rattle.std.proofs.lemmas.Bool.{cases_lt, false≢true}
+use Rattle.std.proofs.lemmas.Bool.{false≢true}
 use Rattle.std.proofs.lemmas.List.{length-map, length-take, length-take-le, get_or_append_left, get_or-append_right}
 use Rattle.std.proofs.lemmas.List.{map-append, drop_all}
 use Rattle.std.proofs.lemmas.List.{drop-map, drop-drop, drop-append-le, take-append-le, take-append-drop}
@@ -19,7 +18,8 @@ use Rattle.grove_desk.specs.Histories.{RoundState, IsRound, store_before, Leads,
 use Rattle.grove_desk.specs.Histories.{receipts_in}
 use Rattle.grove_desk.specs.Ledgers.{JournalState, noted_in, noted_all, next_number, IsAccount, AreAnswered}
 use Rattle.grove_desk.specs.Ledgers.{AreAnsweredInTurn}
-use Rattle.grove_desk.proofs.Keeping.{before_more, leads_more, receipts_more, account_more, answered_by, next_of}
+use Rattle.grove_desk.proofs.Keeping.{before_more, leads_more, receipts_more, numbers_join, account_more}
+use Rattle.grove_desk.proofs.Keeping.{answered_by, next_of}
 
 -- ---- numbers
 
@@ -41,20 +41,6 @@ number_after_all (round ∷ rounds) (Some journal) place =
     let later = number_after_all rounds (Some (noted_in round journal)) place in
     later ∙ number_after round (Some journal) (length (receipts_in rounds) + place)
     ∙ ap (number_at (Some journal.lines)) (omega (arith, long))
-
--- numbers that go on behind others
-numbers_join : (first next : Option ℕ) (front back : List ReceiptState)
-    → ((place : ℕ) → number_at next place ≡ number_at first (length front + place)) → AreNumberedFrom first front
-    → AreNumberedFrom next back → AreNumberedFrom first (front ++ back)
-numbers_join first next front back on are more place other lt = elim (cases_lt place (length front)) [
-  | inl before ↦ ap (λ (e : ReceiptState). e.number) (get_or_append_left front back other place before)
-      ∙ are place other before
-  | inr after ↦
-      let long = length-append front back in
-      let here : length front + (place - length front) ≡ place = omega arith in
-      ap (λ (e : ReceiptState). e.number) (get_or-append_right front back (length front) place other refl after)
-      ∙ more (place - length front) other (omega arith) ∙ on (place - length front) ∙ ap (number_at first) here
-]
 
 -- those of the first part
 numbers_front : (first : Option ℕ) (front back : List ReceiptState) → AreNumberedFrom first (front ++ back)
