@@ -66,14 +66,12 @@ fn document_hint(
         tree: None,
     };
     let repeated = repeated_in(alloc, asked, bytes)?;
-    hint_that(
-        alloc,
-        &Refused {
-            subject,
-            fault,
-            repeated,
-        },
-    )
+    let refused = Refused {
+        subject,
+        fault,
+        repeated,
+    };
+    hint_that(alloc, &refused)
 }
 
 /// What a person is told of a document that is taken: of a member that nothing uses, if it resembles one that the

@@ -27,15 +27,12 @@ pub fn hint_of_path(alloc: Global, tree: &Tree, path: &str) -> Result<Hint, NoMe
     };
     let (part, at, item) = (Part::Whole, None, None);
     let fault = Fault::Wire(WireFault::NoPath(Place { part, at, item }));
-    let repeated = None;
-    hint_that(
-        alloc,
-        &Refused {
-            subject,
-            fault,
-            repeated,
-        },
-    )
+    let refused = Refused {
+        subject,
+        fault,
+        repeated: None,
+    };
+    hint_that(alloc, &refused)
 }
 
 impl<'v> Subject<'v> {
@@ -130,22 +127,13 @@ pub(crate) fn path_in(value: Option<&Value>) -> &str {
 
 /// The first name of the path that no node below the root may have.
 fn ill_named(path: &str) -> Option<&str> {
-    for name in path.split('/').skip(1) {
-        if !is_name(name) {
-            return Some(name);
-        }
-    }
-    None
+    path.split('/').skip(1).find(|name| !is_name(name))
 }
 
 /// May a node below the root have the name?
 fn is_name(name: &str) -> bool {
-    for byte in name.bytes() {
-        if !matches!(byte, b'a'..=b'z' | b'0'..=b'9' | b'_' | b'-') {
-            return false;
-        }
-    }
-    matches!(name.len(), 1..=32)
+    let is_letter = |byte| matches!(byte, b'a'..=b'z' | b'0'..=b'9' | b'_' | b'-');
+    matches!(name.len(), 1..=32) && name.bytes().all(is_letter)
 }
 
 /// The first row below the parent whose name resembles the missing one.

@@ -164,13 +164,10 @@ fn number_in(item: Option<&Value>) -> Option<u64> {
 
 /// How many of the steps do an access.
 fn accesses_in(steps: &[Value]) -> usize {
-    let mut count = 0usize;
-    for step in steps {
-        if number_in(Some(step)).is_some() {
-            count = count.saturating_add(1);
-        }
-    }
-    count
+    steps
+        .iter()
+        .filter(|step| number_in(Some(step)).is_some())
+        .count()
 }
 
 /// The first path with the name at its end that a step locks and none unlocks.
@@ -185,12 +182,7 @@ fn path_held<'v>(steps: &'v [Value], name: &str) -> &'v str {
 }
 
 fn unlock(steps: &[Value], path: &str) -> bool {
-    for step in steps {
-        if is_word(step, "unlock") && path_in(Some(step)) == path {
-            return true;
-        }
-    }
-    false
+    steps.iter().any(|step| is_word(step, "unlock") && path_in(Some(step)) == path)
 }
 
 fn is_word(step: &Value, word: &str) -> bool {

@@ -93,16 +93,12 @@ impl Line<'_> {
             value,
             tree: self.tree,
         };
-        let (fault, repeated) = (self.fault, None);
-        write!(
-            f,
-            "{}",
-            Refused {
-                subject,
-                fault,
-                repeated
-            }
-        )
+        let refused = Refused {
+            subject,
+            fault: self.fault,
+            repeated: None,
+        };
+        write!(f, "{refused}")
     }
 }
 

@@ -67,12 +67,8 @@ impl<'v> Subject<'v> {
 
 /// The first row below the parent that has the name.
 pub(crate) fn child_named(rows: &[Value], parent: u64, name: &str) -> Option<usize> {
-    for (at, row) in rows.iter().enumerate() {
-        if is_child(row, parent) && name_of(row) == name {
-            return Some(at);
-        }
-    }
-    None
+    rows.iter()
+        .position(|row| is_child(row, parent) && name_of(row) == name)
 }
 
 pub(crate) fn is_child(row: &Value, parent: u64) -> bool {
