@@ -342,7 +342,7 @@ LIMITS = [
         ],
     ),
     ("crates/grove_desk/src/desk.rt", "LARGE_LINE", [("docs/OPERATING.md", "those above {} bytes are read")]),
-    ("crates/grove_page/src/desk_front.rt", "LONGEST_WAIT", [("docs/PAGE.md", "or after {} seconds, with what")]),
+    ("crates/grove_serve/src/watching.rt", "LONGEST_WAIT", [("docs/PAGE.md", "or after {} seconds, with what")]),
     (
         "crates/grove_hint/src/session.rt",
         "MOST_READ",

@@ -3,6 +3,7 @@ use Rattle.std.proofs.Common.{◌≡◌, ◌↔◌, ◌+◌, ℕ, ℤ, pos, negs
 use Rattle.std.proofs.Common.{codes, decimal, IsTrue, refl, sym, ap, ◌∙◌, append_assoc, append-nil, subst, arith, inl}
 use Rattle.std.proofs.Common.{inr}
 use Rattle.std.proofs.Common.{◌<◌, length, Some, option_map, slice_get, get_or}
+use Rattle.std.proofs.Math.Bool.{or-true}
 use Rattle.std.proofs.lemmas.Bool.{cases_Bool}
 use Rattle.std.proofs.lemmas.Option.{slice_get-map, slice_get-get_or, same_Some}
 use Rattle.std.proofs.lemmas.List.{length-map, map-append}
@@ -55,10 +56,6 @@ some_more [] true node = refl
 some_more [] false node = refl
 some_more (first ∷ nodes) told node = refl
 
-or_true : (b : Bool) → (b || true) ≡ true
-or_true true = refl
-or_true false = refl
-
 -- the next node is told of
 pub one_told : (rows : Rows) (records : List ℤ) (waits : List ℕ) (test : ℕ → Bool) (node next : ℕ) (later : Bool)
     (old before parted after : List ℕ)
@@ -87,7 +84,7 @@ one_told rows records waits test node next later old before parted after same to
     ∙ ap (λ (text : List ℕ). old ++ (said ++ (comma_if (has_some nodes) ++ text))) (sym (append-nil entry))
     ∙ ap (λ (text : List ℕ). old ++ text) (sym longer) in
     let some : true ≡ has_some (nodes ++ alone (test node) node) =
-    sym (some_more nodes (test node) node ∙ ap (λ (b : Bool). has_some nodes || b) here ∙ or_true (has_some nodes)) in (
+    sym (some_more nodes (test node) node ∙ ap (λ (b : Bool). has_some nodes || b) here ∙ or-true (has_some nodes)) in (
       subst (λ (n : ℕ). after ≡ old ++ entries_text rows records waits false (passing_below n test)) step texts,
       subst (λ (n : ℕ). true ≡ has_some (passing_below n test)) step some,
     )

@@ -68,5 +68,5 @@ pub trait Front<R> {
         requires asks { asks };
 
     /// Learns that a request has come whole.
-    fn note_request(&self) {}
+    fn note_request(&self);
 }

@@ -6,9 +6,9 @@ ghost use Rattle.grove_page.specs.Hints.{caller, MayHint};
 use crate::LineWatch;
 use crate::hints::{hint_of_refusal, hinted_reply};
 use grove_base::{Hint, NoMemory};
-use grove_desk::{Desk, Opening, RoundWatch, Told, Unwatched, Visit};
+use grove_desk::{Desk, Opening, RoundWatch, Told, Visit};
 use grove_session::{AnswerFault, Answers};
-use grove_store::{InMemory, Keeper, Refusal};
+use grove_store::{Keeper, Refusal};
 use grove_tree::Tree;
 use std::alloc::{AllocGlobal, Global};
 use std::marker::Model;
@@ -17,7 +17,7 @@ use std::thread::Threads;
 
 /// A visitor of a desk, whose refusals have hints if it asks for them, and whose lines are watched.
 #[derive(Drop)]
-pub struct HintedVisit<'a, B: Opening, K: Keeper = InMemory, W = Unwatched> {
+pub struct HintedVisit<'a, B: Opening, K: Keeper, W> {
     visit: Visit<'a, B, K, W>,
     watch: &'a W,
     hints: bool,
@@ -33,18 +33,9 @@ impl<'a, B: Opening, K: Keeper, W> Model for HintedVisit<'a, B, K, W> {
     ghost view = { λ hinted. record { visit = hinted.visit; hints = hinted.hints } };
 }
 
-impl<'a, B: Opening, K: Keeper> HintedVisit<'a, B, K> {
-    /// A visitor who has seen nothing yet.
-    pub fn new(desk: &'a Desk<B, K>, hints: bool, tree: Option<&'a Tree>) -> Self
-        ensures { result ≡ caller hints desk.entry.now.opening }
-    {
-        HintedVisit::watched(desk, &Unwatched, hints, tree)
-    }
-}
-
 impl<'a, B: Opening, K: Keeper, W> HintedVisit<'a, B, K, W> {
     /// A visitor who has seen nothing yet, and whose lines are watched, and the rounds that it runs.
-    pub fn watched(desk: &'a Desk<B, K>, watch: &'a W, hints: bool, tree: Option<&'a Tree>) -> Self
+    pub fn new(desk: &'a Desk<B, K>, watch: &'a W, hints: bool, tree: Option<&'a Tree>) -> Self
         ensures { result ≡ caller hints desk.entry.now.opening }
     {
         HintedVisit {

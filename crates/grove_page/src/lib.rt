@@ -1,7 +1,6 @@
 //! The store over HTTP: a page to look at it, replies to lines, and the store as a document.
 #![tactic(auto)]
 
-pub use desk_front::LONGEST_WAIT;
 pub use front::{Front, Visited};
 pub use hinted_visit::HintedVisit;
 pub use hints::hint_of_refusal;
@@ -14,7 +13,6 @@ pub use service::{MOST_KEPT, MOST_LINES};
 pub use serving::{MOST_BODY, Site, serve_page};
 pub use visiting::visit;
 
-mod desk_front;
 mod front;
 mod hinted_visit;
 mod hints;

@@ -1,5 +1,4 @@
 use grove_base::Hint;
-use grove_desk::Unwatched;
 use grove_store::Refusal;
 
 /// What learns of the lines of a visitor, one after the other.
@@ -12,12 +11,4 @@ pub trait LineWatch<R> {
 
     /// The line is answered.
     fn count_line(&self, rt: &R);
-}
-
-impl<R> LineWatch<R> for Unwatched {
-    fn note_refusal(&self, _rt: &R, _line: &[u8], _refusal: &Refusal, _hint: Option<&Hint>) {}
-
-    fn note_long_line(&self, _rt: &R) {}
-
-    fn count_line(&self, _rt: &R) {}
 }

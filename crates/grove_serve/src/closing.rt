@@ -1,8 +1,8 @@
 //! How a server ends once a round couldn't be kept.
-use crate::host::Host;
-use crate::service::Door;
+use crate::host::NetHost;
+use crate::service::{Door, Doors};
 use crate::slots::Slots;
-use std::net::{Net, TcpListener, TcpStream};
+use std::net::TcpStream;
 use std::thread;
 use std::time::Duration;
 
@@ -17,25 +17,20 @@ const PAUSE: u64 = 20;
 
 /// Ends the service of both doors a little after a round couldn't be kept: all their connections, and the waiting for
 /// more. It returns then, or once no connection is served any more.
-pub fn close_at_failure<R: Host + Net<Listener = TcpListener, Stream = TcpStream>>(
-    rt: &R,
-    slots: &Slots,
-    door: &Door,
-    http: Option<&Door>,
-) {
+pub fn close_at_failure<R: NetHost>(rt: &R, slots: &Slots, doors: &Doors) {
     if !slots.streams().await_failure(rt) {
         return;
     }
     thread::sleep(rt, Duration::from_secs(LAST_SECONDS));
     slots.streams().close(rt);
-    wake(rt, door);
-    if let Some(http) = http {
+    wake(rt, &doors.first);
+    if let Some(http) = &doors.http {
         wake(rt, http);
     }
 }
 
 /// Wakes whoever waits for a connection at the door, by one of our own.
-fn wake<R: Host + Net<Listener = TcpListener, Stream = TcpStream>>(rt: &R, door: &Door) {
+fn wake<R: NetHost>(rt: &R, door: &Door) {
     let Ok(address) = door.listener.local_addr() else {
         return;
     };

@@ -4,11 +4,11 @@ use crate::busy::turn_away;
 use crate::closing::close_at_failure;
 use crate::event::Event;
 use crate::file_counts::FileCounts;
-use crate::host::Host;
+use crate::host::{Host, NetHost};
 use crate::minutes::log_minutes;
 use crate::remedy::Remedy;
 use crate::seconds::serve_by_seconds;
-use crate::service::{Door, KeptStore, Manner, Service, Talk};
+use crate::service::{Door, Doors, KeptStore, Manner, Service, Talk};
 use crate::slots::Slots;
 use crate::talking::{Caller, serve_caller};
 use grove_desk::{Desk, Opening};
@@ -19,7 +19,7 @@ use grove_tree::NoMemory;
 use grove_words::SyncEach;
 use std::alloc::Global;
 use std::marker::Brand;
-use std::net::{Net, SocketAddr, TcpListener, TcpStream};
+use std::net::SocketAddr;
 use std::sync::Arc;
 use std::{io, thread};
 
@@ -31,52 +31,50 @@ const FAILURES: u64 = 64;
 /// ended, or until what was answered couldn't be kept. One for which there is no descriptor or no memory waits for it,
 /// and one for which no thread can be started is closed. Gives back what kept the rounds; nothing, if there was no
 /// thread that is needed where rounds are kept.
-pub fn serve<R: Host + Net<Listener = TcpListener, Stream = TcpStream>, K: Keeper + Drop + Send>(
-    rt: &R,
-    service: Service<K>,
-) -> Option<K> {
-    match service.sync {
-        SyncEach::Round => serve_by_rounds::<Brand, R, K>(rt, service),
-        SyncEach::Second => serve_by_seconds::<Brand, R, K>(rt, service),
-    }
-}
-
-/// Serves connections at a desk over the service's store, which keeps each round, and no journal.
-fn serve_by_rounds<
-    B: Opening + Send + Sync,
-    R: Host + Net<Listener = TcpListener, Stream = TcpStream>,
-    K: Keeper + Drop + Send,
->(rt: &R, service: Service<K>) -> Option<K>
-    requires store { service.kept ≡ B.store }
-    requires kept { B.kept ≡ false }
-{
+pub fn serve<R: NetHost, K: Keeper + Drop + Send>(rt: &R, service: Service<K>) -> Option<K> {
     let Service {
         kept,
         counts,
+        sync,
         door,
         http,
         manner,
-        ..
     } = service;
-    let KeptStore { store, keeper } = kept;
-    let slots = slots_over(rt, &store, &door, http.as_ref(), manner, counts);
+    let doors = Doors { first: door, http };
+    let slots = slots_over(rt, &kept.store, &doors, manner, counts);
+    match sync {
+        SyncEach::Round => serve_by_rounds::<Brand, R, K>(rt, kept, &slots, &doors),
+        SyncEach::Second => serve_by_seconds::<Brand, R, K>(rt, kept, &slots, &doors),
+    }
+}
+
+/// Serves connections at a desk over the store, which keeps each round, and no journal.
+fn serve_by_rounds<B: Opening + Send + Sync, R: NetHost, K: Keeper + Drop + Send>(
+    rt: &R,
+    served: KeptStore<K>,
+    slots: &Slots,
+    doors: &Doors,
+) -> Option<K>
+    requires store { served ≡ B.store }
+    requires kept { B.kept ≡ false }
+{
+    let KeptStore { store, keeper } = served;
     let desk = Desk::<B, K>::open(rt.alloc(), store, keeper, false);
-    let is_served = serve_at(rt, &desk, &slots, &door, http.as_ref());
+    let is_served = serve_at(rt, &desk, slots, doors);
     let closed = desk.close(rt.alloc(), &[]).ok()?;
     if is_served { Some(closed.keeper) } else { None }
 }
 
 /// The slots of connections to the store.
-pub fn slots_over<R: Host>(
+fn slots_over<R: Host>(
     rt: &R,
     store: &Store,
-    door: &Door,
-    http: Option<&Door>,
+    doors: &Doors,
     manner: Manner,
     counts: Option<Arc<FileCounts>>,
 ) -> Slots {
     let paths = paths_of(rt.alloc(), store).ok();
-    let slots = Slots::new(rt, rt.alloc(), door, http, manner, paths, counts);
+    let slots = Slots::new(rt, rt.alloc(), doors, manner, paths, counts);
     slots.metrics().rounds.raise_to(store.rounds());
     slots
 }
@@ -88,16 +86,17 @@ fn paths_of(alloc: Global, store: &Store) -> Result<Paths, NoMemory> {
 
 /// Serves the connections of the doors at the desk, and logs each minute meanwhile. Says whether there were the threads
 /// for it.
-pub fn serve_at<
-    B: Opening + Send + Sync,
-    R: Host + Net<Listener = TcpListener, Stream = TcpStream>,
-    K: Keeper + Drop + Send,
->(rt: &R, desk: &Desk<B, K>, slots: &Slots, door: &Door, http: Option<&Door>) -> bool {
+pub fn serve_at<B: Opening + Send + Sync, R: NetHost, K: Keeper + Drop + Send>(
+    rt: &R,
+    desk: &Desk<B, K>,
+    slots: &Slots,
+    doors: &Doors,
+) -> bool {
     thread::scope(thread::scope_env(), rt, |scope| {
         if slots.log().is_some() {
             let _told = scope.spawn(move || log_minutes(rt, desk, slots));
         }
-        let is_served = open_guarded(rt, desk, slots, door, http);
+        let is_served = open_guarded(rt, desk, slots, doors);
         if let Some(log) = slots.log() {
             log.close(rt);
         }
@@ -107,20 +106,21 @@ pub fn serve_at<
 
 /// Serves the connections of the doors until they end, or a thread of its own ends them since a round couldn't be kept.
 /// Where rounds are kept and there is no such thread, none is served.
-fn open_guarded<
-    B: Opening + Send + Sync,
-    R: Host + Net<Listener = TcpListener, Stream = TcpStream>,
-    K: Keeper + Drop + Send,
->(rt: &R, desk: &Desk<B, K>, slots: &Slots, door: &Door, http: Option<&Door>) -> bool {
+fn open_guarded<B: Opening + Send + Sync, R: NetHost, K: Keeper + Drop + Send>(
+    rt: &R,
+    desk: &Desk<B, K>,
+    slots: &Slots,
+    doors: &Doors,
+) -> bool {
     if slots.kept().is_none() {
-        open(rt, desk, slots, door, http);
+        open(rt, desk, slots, doors);
         return true;
     }
     thread::scope(thread::scope_env(), rt, |scope| {
-        let guarded = scope.spawn(move || close_at_failure(rt, slots, door, http));
+        let guarded = scope.spawn(move || close_at_failure(rt, slots, doors));
         let is_guarded = guarded.is_ok();
         if is_guarded {
-            open(rt, desk, slots, door, http);
+            open(rt, desk, slots, doors);
         } else {
             log_event(rt, slots, Event::NoGuard);
         }
@@ -134,17 +134,16 @@ fn open<B: Opening + Send + Sync, R: Host, K: Keeper + Drop + Send>(
     rt: &R,
     desk: &Desk<B, K>,
     slots: &Slots,
-    door: &Door,
-    http: Option<&Door>,
+    doors: &Doors,
 ) {
     thread::scope(thread::scope_env(), rt, |scope| {
-        if let Some(http) = http {
+        if let Some(http) = &doors.http {
             let served = scope.spawn(move || welcome(rt, desk, slots, http));
             if served.is_err() {
                 log_event(rt, slots, Event::NoHttp);
             }
         }
-        welcome(rt, desk, slots, door);
+        welcome(rt, desk, slots, &doors.first);
     });
 }
 

@@ -1,4 +1,5 @@
 use std::alloc::AllocGlobal;
+use std::net::{Net, TcpListener, TcpStream};
 use std::random::RandomSource;
 use std::sync::Wait;
 use std::thread::Threads;
@@ -9,3 +10,8 @@ use std::time::Clock;
 pub trait Host: AllocGlobal + RandomSource + Threads + Wait + Clock + Eprint + Sync {}
 
 impl<R: AllocGlobal + RandomSource + Threads + Wait + Clock + Eprint + Sync> Host for R {}
+
+/// The same, and connections of its own.
+pub trait NetHost: Host + Net<Listener = TcpListener, Stream = TcpStream> {}
+
+impl<R: Host + Net<Listener = TcpListener, Stream = TcpStream>> NetHost for R {}

@@ -4,7 +4,7 @@
 
 pub use connections::serve;
 pub use file_counts::FileCounts;
-pub use host::Host;
+pub use host::{Host, NetHost};
 pub use memory_file::MemoryFile;
 pub use service::{Door, KeptStore, Manner, Service, Talk};
 

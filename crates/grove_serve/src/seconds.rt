@@ -2,16 +2,15 @@
 ghost use Rattle.std.specs.Prelude.{◌≡◌, false};
 ghost use denote.Param.Send.{IsSend, IsSync};
 
-use crate::connections::{log_event, serve_at, slots_over};
+use crate::connections::{log_event, serve_at};
 use crate::event::Event;
-use crate::host::Host;
-use crate::service::{Door, KeptStore, Service};
+use crate::host::{Host, NetHost};
+use crate::service::{Doors, KeptStore};
 use crate::slots::Slots;
 use grove_data::{KeptBeside, KeptCopies};
 use grove_desk::{Desk, Opening};
 use grove_store::{Keeper, Unkept};
 use grove_tree::OpenGate;
-use std::net::{Net, TcpListener, TcpStream};
 use std::sync::atomic::AtomicBool;
 use std::thread;
 use std::time::Duration;
@@ -19,31 +18,23 @@ use std::time::Duration;
 /// A line that changes nothing. At a desk whose store couldn't be kept it shows that.
 const SHOWING: &[u8] = b"{\"weights\":null}";
 
-/// Serves connections at a desk over the service's store, a copy of which is kept each second in which lines were
-/// answered, and once more at the end.
-pub fn serve_by_seconds<
-    B: Opening + Send + Sync,
-    R: Host + Net<Listener = TcpListener, Stream = TcpStream>,
-    K: Keeper + Drop + Send,
->(rt: &R, service: Service<K>) -> Option<K>
-    requires store { service.kept ≡ B.store }
+/// Serves connections at a desk over the store, a copy of which is kept each second in which lines were answered, and
+/// once more at the end.
+pub fn serve_by_seconds<B: Opening + Send + Sync, R: NetHost, K: Keeper + Drop + Send>(
+    rt: &R,
+    served: KeptStore<K>,
+    slots: &Slots,
+    doors: &Doors,
+) -> Option<K>
+    requires store { served ≡ B.store }
     requires kept { B.kept ≡ false }
 {
-    let Service {
-        kept,
-        counts,
-        door,
-        http,
-        manner,
-        ..
-    } = service;
-    let KeptStore { store, keeper } = kept;
+    let KeptStore { store, keeper } = served;
     let has_failed = AtomicBool::new(false);
     let mut copies = KeptCopies::<B, K>::new(keeper, &store, &has_failed);
-    let slots = slots_over(rt, &store, &door, http.as_ref(), manner, counts);
     let beside = KeptBeside::new(&has_failed);
     let desk = Desk::<B, KeptBeside<'_>>::open(rt.alloc(), store, beside, false);
-    let is_served = serve_beside(rt, &desk, &slots, &door, http.as_ref(), &mut copies);
+    let is_served = serve_beside(rt, &desk, slots, doors, &mut copies);
     let Ok(closed) = desk.close(rt.alloc(), &[]) else {
         return None;
     };
@@ -57,17 +48,11 @@ pub fn serve_by_seconds<
 
 /// Serves connections in a thread of its own, and keeps copies of the store meanwhile. Says whether there were the
 /// threads for it.
-fn serve_beside<
-    B: Opening + Send + Sync,
-    R: Host + Net<Listener = TcpListener, Stream = TcpStream>,
-    D: Keeper + Drop + Send,
-    K: Keeper,
->(
+fn serve_beside<B: Opening + Send + Sync, R: NetHost, D: Keeper + Drop + Send, K: Keeper>(
     rt: &R,
     desk: &Desk<B, D>,
     slots: &Slots,
-    door: &Door,
-    http: Option<&Door>,
+    doors: &Doors,
     copies: &mut KeptCopies<'_, B, K>,
 ) -> bool
     requires { desk.now.opening ≡ B.store }
@@ -81,7 +66,7 @@ fn serve_beside<
             requires crossing { IsSend B.row × IsSync B.row × IsSync R.row × IsSend D.row }
         {
             let served = scope.spawn(move || {
-                let is_served = serve_at(rt, desk, slots, door, http);
+                let is_served = serve_at(rt, desk, slots, doors);
                 slots.streams().close(rt);
                 is_served
             });

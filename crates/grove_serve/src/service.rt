@@ -37,6 +37,13 @@ pub struct Service<K: Keeper> {
     pub manner: Manner,
 }
 
+/// The ports at which a store is served: that of its command, and one over HTTP beside that, if there is one.
+#[derive(Drop)]
+pub struct Doors {
+    pub first: Door,
+    pub http: Option<Door>,
+}
+
 /// A port that is listened on.
 #[derive(Drop)]
 pub struct Door {

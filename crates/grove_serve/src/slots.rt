@@ -4,7 +4,7 @@ use crate::file_counts::FileCounts;
 use crate::log::Log;
 use crate::metrics::Metrics;
 use crate::pool::Pool;
-use crate::service::{Door, Manner, Talk};
+use crate::service::{Doors, Manner, Talk};
 use crate::streams::Streams;
 use grove_page::{MOST_KEPT, Paths};
 use grove_tree::Tree;
@@ -43,16 +43,16 @@ impl Slots {
     pub fn new<R: Clock>(
         rt: &R,
         alloc: Global,
-        door: &Door,
-        http: Option<&Door>,
+        doors: &Doors,
         manner: Manner,
         paths: Option<Paths>,
         kept: Option<Arc<FileCounts>>,
     ) -> Slots {
-        let (lines, requests) = match (door.talk, http) {
-            (Talk::Requests, _) => (0, door.slots),
-            (Talk::Lines, Some(http)) => (door.slots, http.slots),
-            (Talk::Lines, None) => (door.slots, 0),
+        let first = &doors.first;
+        let (lines, requests) = match (first.talk, &doors.http) {
+            (Talk::Requests, _) => (0, first.slots),
+            (Talk::Lines, Some(http)) => (first.slots, http.slots),
+            (Talk::Lines, None) => (first.slots, 0),
         };
         let Manner {
             patience,

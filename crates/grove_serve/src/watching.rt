@@ -10,7 +10,7 @@ use crate::leaving::has_left;
 use crate::metrics_text::metrics_text;
 use grove_base::NoMemory;
 use grove_desk::{Awaited, Desk, DeskFault, Opening};
-use grove_page::{Front, HintedVisit, LONGEST_WAIT, RepliesSink, Visited, visit};
+use grove_page::{Front, HintedVisit, RepliesSink, Visited, visit};
 use grove_session::{SessionFault, Sink, Source, session};
 use grove_store::{Keeper, Store};
 use std::alloc::AllocGlobal;
@@ -18,6 +18,9 @@ use std::marker::Model;
 use std::net::TcpStream;
 use std::sync::Wait;
 use std::time::{Clock, Duration};
+
+/// For so many seconds a round is waited for.
+const LONGEST_WAIT: u64 = 30;
 
 /// A visitor who has seen nothing yet and whose lines the guest counts and logs, with hints in refusals if these are
 /// asked for.
@@ -28,7 +31,7 @@ fn visitor_for<'a, B: Opening, K: Keeper>(
 ) -> HintedVisit<'a, B, K, Guest<'a>>
     ensures { result ≡ caller hints desk.entry.now.opening }
 {
-    HintedVisit::watched(desk, guest, hints, guest.slots().tree())
+    HintedVisit::new(desk, guest, hints, guest.slots().tree())
 }
 
 /// Answers the lines of the guest's source at the desk, one after the other, with hints in refusals if these are asked
