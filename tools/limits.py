@@ -362,7 +362,7 @@ LIMITS = [
     ("crates/grove_serve/src/room.rt", "MOST_HEAD", [("docs/PAGE.md", "if its head of at most {} bytes")]),
     ("crates/grove_data/src/data.rt", "FEW_BYTES", [("docs/OPERATING.md", "after more than {} MiB of rounds")]),
     ("crates/grove_proof/src/row_sums.rt", "GREATEST", [("docs/CERTIFICATE.md", "No amount is above {}.")]),
-    ("crates/grove_wire/src/sketch.rt", "MOST_NESTED", [("docs/FORMATS.md", "Values that nest {} deep are read")]),
+    ("crates/grove_line/src/reading.rt", "MOST_NESTED", [("docs/FORMATS.md", "Values that nest {} deep are read")]),
     ("crates/grove_table/src/planting.rt", "MOST_NODES", [("docs/PROOFS.md", "or with more than {} nodes")]),
     (
         "crates/grove_table/src/paths.rt",
@@ -497,7 +497,7 @@ LIMITS = [
             ("docs/DECISIONS.md", "with a number of {} random bytes"),
         ],
     ),
-    ("crates/grove_wire/src/sketch.rt", "MOST_NESTED + 1", [("docs/FORMATS.md", "or values that nest {} deep")]),
+    ("crates/grove_line/src/reading.rt", "MOST_NESTED + 1", [("docs/FORMATS.md", "or values that nest {} deep")]),
     ("tests/sweeps/hostile_lines.py", "MOST_AT_ONCE", [("docs/OPERATING.md", "may cost {} MB at any time")]),
     ("tests/sweeps/hostile_lines.py", "MOST_LATER", [("docs/OPERATING.md", "and {} MB a second later")]),
     ("tools/prove", r"\bmemory_each=(\d+)000000\b", [("docs/VERIFY.md", "memory for ({} GB each")]),

@@ -1,5 +1,9 @@
-pub mod WholeNumbers
-pub mod AccessTokens
-pub mod Items
-pub mod Members
+pub mod TokenValues
+pub mod FewItems
+pub mod ArrayItems
+pub mod ListReading
+pub mod ObjectMembers
+pub mod CheckReading
+pub mod OnlyMember
 pub mod Lines
+pub mod LineTexts

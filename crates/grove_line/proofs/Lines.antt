@@ -4,7 +4,8 @@ use Rattle.std.specs.Prelude.{Result, Ok, Err, Some}
 use Rattle.grove_tree.specs.Trees.{Rows}
 use Rattle.grove_tree.specs.Weights.{unweighed}
 use Rattle.grove_wire.specs.declared.fault.WireFault.{WireFault}
-use Rattle.grove_wire.specs.declared.fault.WireFault.TheVariants.{BadJson, Shape, NoPath, BadLength, Limit, Tree, Memory}
+use Rattle.grove_wire.specs.declared.fault.WireFault.TheVariants.{BadJson, Shape, NoPath, BadLength, Limit, Tree}
+use Rattle.grove_wire.specs.declared.fault.WireFault.TheVariants.{Memory}
 use Rattle.grove_wire.specs.declared.request.Request.{Request}
 use Rattle.grove_wire.specs.Outcomes.{Fails, Gives}
 use Rattle.grove_wire.specs.Requests.{Asked, asked_of, request_of}

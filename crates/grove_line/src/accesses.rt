@@ -1,88 +1,126 @@
-ghost use Rattle.std.specs.Prelude.{◌≡◌, ℕ, ◌≤◌, ◌<◌, [], ◌∷◌, length, IfSome};
-ghost use Rattle.json.specs.Token.{string};
-ghost use Rattle.grove_line.specs.AccessTokens.{StartsNumber, NamesOp, TellsSlots, StartsLength};
-ghost use Rattle.grove_line.specs.Straight.{Starts, IsAccess};
+//! The accesses of a list, as they are read one after the other.
+ghost use Rattle.std.specs.Prelude.{◌≡◌, ◌≢◌, ◌∷◌, [], ◌++◌, List, Err, OnOk, IfOk};
+ghost use Rattle.serde_json.specs.Data.{Data};
+ghost use Rattle.grove_tree.specs.Trees.{Rows};
+ghost use Rattle.grove_wire.specs.declared.place.Place.{Place as SpecPlace};
+ghost use Rattle.grove_wire.specs.declared.versions.Version.TheVariants as version;
+ghost use Rattle.grove_wire.specs.declared.versions.Version.{Version as SpecVersion};
+ghost use Rattle.grove_wire.specs.FlatValues.{access_on, few_seen, few_of};
+ghost use Rattle.grove_wire.specs.Outcomes.{few_on};
+ghost use Rattle.grove_wire.specs.Reading.{access_at};
+ghost use Rattle.grove_line.specs.ArrayItems.{with_next};
+ghost use Rattle.grove_line.specs.ListReading.{IsReading, first_of, second_of, read_in};
 
-use crate::integers::{signed, unsigned};
-use grove_access::{Access, LONGEST_ACCESS, Op};
+use crate::list_read::ListRead;
+use crate::unread::Unread;
+use grove_access::{Access, AccessList, ListFault, MOST_ACCESSES};
 use grove_tree::Tree;
-use json::{Reader, Token};
+use grove_wire::{AccessForm, Few, Place, WireFault};
+use std::alloc::{AllocFailed, Global};
 
-/// An access that comes next, if it is one without fault.
-pub(crate) fn access(tree: &Tree, reader: &mut Reader<'_>) -> Option<Access>
-    ensures read { (depth : ℕ) → 1 ≤ depth → IfSome result
-        (λ access. Starts depth reader.old reader.new (IsAccess tree.now access)) }
-    ensures shorter { IfSome result (λ _. length reader.new < length reader.old) }
-{
-    let Some(Token::BeginArray) = reader.next() else {
-        return None;
-    };
-    let word = text(reader)?;
-    let path = text(reader)?;
-    let op = op(word, reader)?;
-    let length = length(reader)?;
-    let node = tree.find(path)?;
-    Some(Access { node, op, length })
+/// What is read of a list so far.
+#[derive(Drop)]
+pub(crate) struct Accesses {
+    /// Those before the fault.
+    all: Vec<Access>,
+    /// The first fault, in the second version.
+    fault: Option<WireFault>,
+    /// The place of the first access that tells a length, where none before it has a fault.
+    told: Option<Place>,
+    /// How many items there are, or one more than there may be.
+    count: usize,
 }
 
-/// A text that comes next.
-fn text<'a>(reader: &mut Reader<'a>) -> Option<&'a str>
-    ensures { IfSome result (λ text. reader.old ≡ string text.now ∷ reader.new) }
-{
-    match reader.next() {
-        Some(Token::String(text)) => Some(text),
-        _ => None,
+impl Accesses {
+    pub(crate) fn new(alloc: Global) -> Accesses
+        ensures { (tree : Rows) (place : SpecPlace) → IsReading tree place [] result }
+    {
+        Accesses {
+            all: Vec::new(alloc),
+            fault: None,
+            told: None,
+            count: 0,
+        }
     }
-}
 
-/// The operation that the word names, with its number, if it has one, which comes next.
-fn op(word: &str, reader: &mut Reader<'_>) -> Option<Op>
-    ensures { IfSome result (λ op. NamesOp word.now op reader.old reader.new) }
-{
-    match word {
-        "get" => Some(Op::Get),
-        "set" => Some(Op::Set(number(reader)?)),
-        "add" => Some(Op::Add(number(reader)?)),
-        "take" => Some(Op::Take(number(reader)?)),
-        _ => None,
+    /// Reads one more item of the list that stands at the place.
+    pub(crate) fn add(
+        &mut self,
+        tree: &Tree,
+        place: Place,
+        items: Few<'_>,
+    ) -> Result<(), AllocFailed<Access>>
+        ensures { OnOk result ((front : List Data) (d : Data) → few_seen items.entry ≡ few_of d
+            → IsReading tree.now place front self.old → IsReading tree.now place (front ++ d ∷ []) self.new) }
+    {
+        if self.count >= MOST_ACCESSES {
+            self.count = MOST_ACCESSES + 1;
+            return Ok(());
+        }
+        self.read(tree, place.within(self.count as u32), items)?;
+        self.count += 1;
+        Ok(())
     }
-}
 
-/// A whole number of 64 bits that comes next.
-fn number(reader: &mut Reader<'_>) -> Option<i64>
-    ensures { IfSome result (λ n. StartsNumber n reader.old reader.new) }
-{
-    match reader.next() {
-        Some(Token::Number(text)) => signed(text),
-        _ => None,
+    /// Reads the item that stands at the place, if none before it has a fault.
+    fn read(&mut self, tree: &Tree, place: Place, items: Few<'_>) -> Result<(), AllocFailed<Access>>
+        ensures first { OnOk result (first_of self.new ≡ with_next (first_of self.old)
+            (access_on tree.now version.First place (few_seen items.entry))) }
+        ensures second { OnOk result (second_of self.new ≡ with_next (second_of self.old)
+            (access_on tree.now version.Second place (few_seen items.entry))) }
+        ensures count { OnOk result (self.new.count ≡ self.old.count) }
+    {
+        if self.fault.is_some() {
+            return Ok(());
+        }
+        let Some(form) = AccessForm::of(items) else {
+            self.fault = Some(WireFault::Shape(place));
+            return Ok(());
+        };
+        if self.told.is_none() && form.tells_length() {
+            self.told = Some(place);
+        }
+        match form.on(tree, place) {
+            Ok(access) => self.all.push(access)?,
+            Err(fault) => self.fault = Some(fault),
+        }
+        Ok(())
     }
-}
 
-/// The length that comes next, or one slot if none does, and the end of the array.
-fn length(reader: &mut Reader<'_>) -> Option<u32>
-    ensures { IfSome result (λ slots. StartsLength slots reader.old reader.new) }
-{
-    match reader.next() {
-        Some(Token::EndArray) => Some(1),
-        Some(Token::Number(text)) => {
-            let slots = slots(text)?;
-            match reader.next() {
-                Some(Token::EndArray) => Some(slots),
-                _ => None,
+    /// The list that these are, over the tree, where it stands at the place.
+    pub(crate) fn into_list(
+        self,
+        alloc: Global,
+        tree: &Tree,
+        place: Place,
+    ) -> Result<ListRead, Unread>
+        requires { (ds : List Data) × IsReading tree.now place ds self }
+        ensures list { IfOk result (λ read. (ds : List Data) (v : SpecVersion) → IsReading tree.now place ds self
+            → read_in v read ≡ few_on 64 (access_at tree.now v) place ds) }
+        ensures memory { result ≢ Err Unread.BadJson }
+    {
+        if self.count > MOST_ACCESSES {
+            return Ok(ListRead {
+                list: Err(WireFault::Limit(place)),
+                told: None,
+            });
+        }
+        let told = self.told;
+        if let Some(fault) = self.fault {
+            return Ok(ListRead {
+                list: Err(fault),
+                told,
+            });
+        }
+        match AccessList::new(alloc, tree, &self.all) {
+            Ok(list) => Ok(ListRead {
+                list: Ok(list),
+                told,
+            }),
+            Err(ListFault::Memory) => Err(Unread::Memory),
+            Err(ListFault::TooLong | ListFault::NoNode(_) | ListFault::BadLength(_)) => {
+                unreachable!()
             }
         }
-        _ => None,
-    }
-}
-
-/// The slots that the text tells, if an access may take so many.
-fn slots(text: &str) -> Option<u32>
-    ensures { IfSome result (λ slots. TellsSlots (text.now ∷ []) slots) }
-{
-    let slots = u32::try_from(unsigned(text)?).ok()?;
-    if 1 <= slots && slots <= LONGEST_ACCESS {
-        Some(slots)
-    } else {
-        None
     }
 }

@@ -1,4 +1,4 @@
-//! What a session line asks for, read straight from its text where that is so.
+//! What a session line asks for, read from its text.
 #![tactic(auto)]
 
 pub use asked::Asked;
@@ -7,9 +7,15 @@ pub use line_reader::LineReader;
 
 mod accesses;
 mod asked;
-mod integers;
+mod check;
+mod items;
 mod line;
 mod line_reader;
-mod lists;
+mod list_read;
+mod members;
+mod only;
+mod parts;
 mod reading;
-mod straight;
+mod scalars;
+mod unread;
+mod values;

@@ -3,9 +3,9 @@ ghost use Rattle.grove_wire.specs.Outcomes.{Gives};
 ghost use Rattle.grove_wire.specs.RequestLaws.{AskedFits};
 ghost use Rattle.grove_wire.specs.Requests.{asked_of, request_of};
 
-use crate::reading::line_request;
+use crate::reading::read_request;
 use grove_tree::Tree;
-use grove_wire::{Request, WireFault, read_request};
+use grove_wire::{Request, WireFault};
 use json::Scratch;
 use std::alloc::Global;
 use std::fmt;
@@ -25,21 +25,20 @@ impl LineReader {
         LineReader { scratch: None }
     }
 
-    /// What `read_request` reads of the line. A plan or a batch without fault is read straight from the line's text, and
-    /// all else by way of the line's value.
+    /// The request that a line is, over the tree. What isn't JSON is `BadJson`; what is no object of just one member
+    /// with a name that there is, is `Shape` of the whole. A plan's and a batch's accesses may tell lengths, and a
+    /// check has a version as a document has.
     pub fn read(&mut self, alloc: Global, tree: &Tree, line: &[u8]) -> Result<Request, WireFault>
         ensures read { Gives asked_of result (request_of tree.now line.now) }
         ensures fits { IfOk result (λ request. AskedFits tree.now (asked_of request)) }
     {
-        if self.scratch.is_none() {
-            self.scratch = Some(Box::new(alloc, Scratch::new(alloc))?);
-        }
-        let request = match &mut self.scratch {
-            Some(scratch) => line_request(alloc, scratch, tree, line),
-            None => read_request(alloc, tree, line),
+        let mut scratch = match self.scratch.take() {
+            Some(scratch) => scratch,
+            None => Box::new(alloc, Scratch::new(alloc))?,
         };
-        if line.len() > MOST_KEPT {
-            self.scratch = None;
+        let request = read_request(alloc, &mut scratch, tree, line);
+        if line.len() <= MOST_KEPT {
+            self.scratch = Some(scratch);
         }
         request
     }

@@ -13,7 +13,6 @@ use Rattle.grove_wire.specs.Outcomes.{of_form}
 use Rattle.grove_wire.specs.Places.{whole_of, item_on}
 use Rattle.grove_wire.specs.Forms.{row_form}
 use Rattle.grove_wire.specs.Reading.{access_at, list_on, step_at, flow_row_at}
-use Rattle.grove_wire.specs.Sketches.{kept_step_at, kept_row_at}
 
 abbrev pub row_in : ℕ → Data → Result (NodeRow × ℤ) WireFault
 row_in = λ at. of_form row_form (item_on (whole_of part.Nodes) at)
@@ -29,10 +28,3 @@ step_in tree place = λ at. step_at tree (item_on place at)
 
 abbrev pub flow_row_in : Rows → ℕ → Data → Result FlowRow WireFault
 flow_row_in tree = λ at. flow_row_at tree (item_on (whole_of part.Flow) at)
-
--- of what is kept of a check
-abbrev pub kept_step_in : Rows → ℕ → Data → Result Step WireFault
-kept_step_in tree = λ at. kept_step_at tree (item_on (whole_of part.Plan) at)
-
-abbrev pub kept_row_in : Rows → ℕ → Data → Result FlowRow WireFault
-kept_row_in tree = λ at. kept_row_at tree (item_on (whole_of part.Flow) at)

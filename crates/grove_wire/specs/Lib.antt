@@ -12,7 +12,7 @@ pub mod Requests
 pub mod Replies
 pub mod Documents
 pub mod Names
-pub mod Sketches
 pub mod FoundPaths
 pub mod CachedPaths
 pub mod Tokens
+pub mod FlatValues

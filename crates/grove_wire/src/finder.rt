@@ -20,7 +20,7 @@ pub(crate) struct Found<'v> {
 
 /// The nodes of paths. A path that was looked up not long before is known, and not looked up again.
 #[derive(Drop)]
-pub(crate) struct Finder<'t, 'v> {
+pub struct Finder<'t, 'v> {
     tree: &'t Tree,
     /// By the mark of its path, what was looked up last.
     found: Vec<Option<Found<'v>>>,
@@ -39,11 +39,7 @@ impl<'t, 'v> Model for Finder<'t, 'v> {
 
 impl<'t, 'v> Finder<'t, 'v> {
     /// One that knows about so many paths at once.
-    pub(crate) fn new(
-        alloc: Global,
-        tree: &'t Tree,
-        room: usize,
-    ) -> Result<Finder<'t, 'v>, AllocError>
+    pub fn new(alloc: Global, tree: &'t Tree, room: usize) -> Result<Finder<'t, 'v>, AllocError>
         ensures { IfOk result (λ finder. finder ≡ tree.now) }
     {
         let mut found = Vec::with_capacity(alloc, room)?;
@@ -51,6 +47,13 @@ impl<'t, 'v> Finder<'t, 'v> {
             found.push(None)?;
         }
         Ok(Finder { tree, found })
+    }
+
+    /// The tree whose nodes it finds.
+    pub fn tree(&self) -> &'t Tree
+        ensures { result.now ≡ self.now }
+    {
+        self.tree
     }
 
     /// The node with a path, or `NoPath` at the place.

@@ -1,15 +1,16 @@
 ghost use Rattle.std.specs.Prelude.{◌≡◌, ◌<◌, ◌^◌, map, option_map, IfOk, length, vec_len};
+ghost use Rattle.serde_json.specs.Find.{get};
 ghost use Rattle.serde_json.specs.View.{view};
-ghost use Rattle.grove_wire.specs.Forms.{amount_of, flow_form};
 ghost use Rattle.grove_wire.specs.Outcomes.{Gives, each_on};
 ghost use Rattle.grove_wire.specs.Places.{whole_of};
 ghost use Rattle.grove_wire.specs.Reading.{flow_row_at, flow_in, plan_and_flow_in};
 ghost use Rattle.grove_wire.specs.RowParts.{flow_with};
+ghost use Rattle.grove_wire.specs.FlatValues.{seen, flat, path_seen, amount_seen, row_seen, AreRowMembers, row_on};
 
 use crate::document::{MOST_ITEMS, items_in};
 use crate::finder::Finder;
 use crate::plans::plan_found;
-use crate::{Part, Place, WireFault};
+use crate::{Part, Place, Scalar, WireFault};
 use grove_plan::Plan;
 use grove_proof::{Flow, FlowRow};
 use grove_tree::{Node, Tree};
@@ -79,7 +80,7 @@ fn read_flow_rows<'v>(
     Ok(rows)
 }
 
-#[tactic(auto, unfolding(crate::specs::Reading::flow_row_at))]
+#[tactic(auto, using(crate::proofs::FlatValues::row_of_members))]
 fn flow_row_at<'v>(
     finder: &mut Finder<'_, 'v>,
     place: Place,
@@ -88,7 +89,19 @@ fn flow_row_at<'v>(
     ensures read { result ≡ flow_row_at finder.old place (view value.now) }
     ensures tree { finder.new ≡ finder.old }
 {
-    let Some(form) = flow_form(value) else {
+    row_on(finder, place, &RowMembers::of(value))
+}
+
+/// A flow row: first its form, and then its path.
+pub fn row_on<'v>(
+    finder: &mut Finder<'_, 'v>,
+    place: Place,
+    members: &RowMembers<'v>,
+) -> Result<FlowRow, WireFault>
+    ensures read { result ≡ row_on finder.old place (row_seen members.now) }
+    ensures tree { finder.new ≡ finder.old }
+{
+    let Some(form) = flow_form(members) else {
         return Err(WireFault::Shape(place));
     };
     let node = finder.node_on(place, form.path)?;
@@ -96,7 +109,7 @@ fn flow_row_at<'v>(
 }
 
 /// What stands in a flow row, at the node of its path.
-pub(crate) fn row_at(node: Node, form: &FlowForm<'_>) -> FlowRow
+fn row_at(node: Node, form: &FlowForm<'_>) -> FlowRow
     ensures { result ≡ record {
       node = node;
       above = form.now.above;
@@ -116,28 +129,61 @@ pub(crate) fn row_at(node: Node, form: &FlowForm<'_>) -> FlowRow
     }
 }
 
-/// What stands in a flow row.
-#[derive(Drop)]
-pub(crate) struct FlowForm<'v> {
-    pub(crate) path: &'v str,
-    pub(crate) above: u64,
-    pub(crate) held: u64,
-    pub(crate) first: u64,
-    pub(crate) last: u64,
-    pub(crate) own: u64,
+/// What is looked at of a flow row.
+#[derive(Clone, Copy, Drop)]
+pub struct RowMembers<'v> {
+    pub node: Option<Scalar<'v>>,
+    pub above: Option<Scalar<'v>>,
+    pub held: Option<Scalar<'v>>,
+    pub first: Option<Scalar<'v>>,
+    pub last: Option<Scalar<'v>>,
+    pub own: Option<Scalar<'v>>,
 }
 
-#[tactic(auto, unfolding(crate::specs::Forms::flow_form))]
-pub(crate) fn flow_form(value: &Value) -> Option<FlowForm<'_>>
-    ensures { option_map (λ form. flow_with form.path.now form.above form.held form.first form.last form.own) result
-        ≡ flow_form (view value.now) }
+impl<'v> RowMembers<'v> {
+    /// What is looked at of a value.
+    pub fn of(value: &'v Value) -> RowMembers<'v>
+        ensures { AreRowMembers result (view value.now) }
+    {
+        RowMembers {
+            node: member_of(value, "node"),
+            above: member_of(value, "above"),
+            held: member_of(value, "held"),
+            first: member_of(value, "first"),
+            last: member_of(value, "last"),
+            own: member_of(value, "own"),
+        }
+    }
+}
+
+fn member_of<'v>(value: &'v Value, name: &str) -> Option<Scalar<'v>>
+    ensures { option_map seen result ≡ option_map flat (get name.now (view value.now)) }
 {
-    let path = value.get("node")?.as_str()?;
-    let above = amount_of(value, "above")?;
-    let held = amount_of(value, "held")?;
-    let first = amount_of(value, "first")?;
-    let last = amount_of(value, "last")?;
-    let own = amount_of(value, "own")?;
+    let member = value.get(name)?;
+    Some(Scalar::of(member))
+}
+
+/// What stands in a flow row.
+#[derive(Drop)]
+struct FlowForm<'v> {
+    path: &'v str,
+    above: u64,
+    held: u64,
+    first: u64,
+    last: u64,
+    own: u64,
+}
+
+fn flow_form<'v>(members: &RowMembers<'v>) -> Option<FlowForm<'v>>
+    ensures { option_map (λ form. flow_with form.path.now form.above form.held form.first form.last form.own) result
+        ≡ row_seen members.now }
+{
+    let path = path_of(members.node)?;
+    let above = amount_of(members.above)?;
+    let held = amount_of(members.held)?;
+    let first = amount_of(members.first)?;
+    let last = amount_of(members.last)?;
+    let own = amount_of(members.own)?;
     Some(FlowForm {
         path,
         above,
@@ -148,10 +194,14 @@ pub(crate) fn flow_form(value: &Value) -> Option<FlowForm<'_>>
     })
 }
 
-#[tactic(auto, unfolding(crate::specs::Forms::amount_of))]
-fn amount_of(value: &Value, name: &str) -> Option<u64>
-    ensures { result ≡ amount_of name.now (view value.now) }
+fn path_of(member: Option<Scalar<'_>>) -> Option<&str>
+    ensures { option_map (λ path. path.now) result ≡ path_seen member.entry }
 {
-    let member = value.get(name)?;
-    member.as_u64()
+    member?.as_str()
+}
+
+fn amount_of(member: Option<Scalar<'_>>) -> Option<u64>
+    ensures { result ≡ amount_seen member.entry }
+{
+    member?.as_u64()
 }

@@ -7,7 +7,7 @@ use fast_float::Numeral;
 use serde_json::Number;
 
 /// The number that a token of JSON writes, where it is in range.
-pub(crate) fn number_of(text: &str) -> Option<Number>
+pub fn number_of(text: &str) -> Option<Number>
     ensures { option_map number_view result ≡ number_of text.now }
 {
     let bytes = text.as_bytes();

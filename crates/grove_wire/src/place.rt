@@ -62,7 +62,7 @@ pub struct Place {
 
 impl Place {
     /// A part as a whole.
-    pub(crate) fn whole(part: Part) -> Place
+    pub fn whole(part: Part) -> Place
         ensures { result ≡ whole_of part }
     {
         Place {
@@ -84,7 +84,7 @@ impl Place {
     }
 
     /// One item of what stands at this place, where that is a part or an item of one.
-    pub(crate) fn within(self, at: u32) -> Place
+    pub fn within(self, at: u32) -> Place
         ensures { result ≡ item_on self at }
     {
         match self.at {

@@ -2,11 +2,11 @@ ghost use Rattle.std.specs.Prelude.{◌≡◌, ◌<◌, ◌^◌, map, IfOk, leng
 ghost use Rattle.serde_json.specs.View.{view};
 ghost use Rattle.grove_wire.specs.Outcomes.{Gives, each_on, few_on};
 ghost use Rattle.grove_wire.specs.Reading.{path_at, step_of, step_at, plan_in};
+ghost use Rattle.grove_wire.specs.FlatValues.{few_seen, seen, step_on};
 
 use crate::document::{MOST_ITEMS, items_in};
 use crate::finder::Finder;
-use crate::forms::{is_word, list_items, short_number};
-use crate::{Part, Place, WireFault};
+use crate::{Few, Part, Place, Scalar, WireFault};
 use grove_plan::{Plan, Step};
 use grove_tree::{Node, Tree};
 use serde_json::Value;
@@ -72,7 +72,7 @@ fn read_steps<'v>(
     Ok(steps)
 }
 
-#[tactic(auto, unfolding(crate::specs::Reading::step_at))]
+#[tactic(auto, using(crate::proofs::FlatValues::step_of_few))]
 fn step_at<'v>(
     finder: &mut Finder<'_, 'v>,
     place: Place,
@@ -81,12 +81,21 @@ fn step_at<'v>(
     ensures read { result ≡ step_at finder.old place (view value.now) }
     ensures tree { finder.new ≡ finder.old }
 {
-    let Some(items) = list_items(value) else {
-        return Err(WireFault::Shape(place));
-    };
+    step_on(finder, place, Few::of(value))
+}
+
+/// A step: first its form, and then its path.
+pub fn step_on<'v>(
+    finder: &mut Finder<'_, 'v>,
+    place: Place,
+    items: Few<'v>,
+) -> Result<Step, WireFault>
+    ensures read { result ≡ step_on finder.old place (few_seen items.entry) }
+    ensures tree { finder.new ≡ finder.old }
+{
     match items {
-        [word, operand] => step_of(finder, place, word, operand),
-        _ => Err(WireFault::Shape(place)),
+        Few::Two(word, operand) => step_of(finder, place, word, operand),
+        Few::Three(_, _, _) | Few::Four(_, _, _, _) | Few::Other => Err(WireFault::Shape(place)),
     }
 }
 
@@ -94,18 +103,18 @@ fn step_at<'v>(
 fn step_of<'v>(
     finder: &mut Finder<'_, 'v>,
     place: Place,
-    word: &Value,
-    operand: &'v Value,
+    word: Scalar<'_>,
+    operand: Scalar<'v>,
 ) -> Result<Step, WireFault>
-    ensures read { result ≡ step_of finder.old place (view word.now) (view operand.now) }
+    ensures read { result ≡ step_of finder.old place (seen word.entry) (seen operand.entry) }
     ensures tree { finder.new ≡ finder.old }
 {
-    if is_word(word, "lock") {
+    if word.is("lock") {
         Ok(Step::Lock(path_at(finder, place, operand)?))
-    } else if is_word(word, "unlock") {
+    } else if word.is("unlock") {
         Ok(Step::Unlock(path_at(finder, place, operand)?))
-    } else if is_word(word, "access") {
-        let access = short_number(operand).ok_or(WireFault::Shape(place))?;
+    } else if word.is("access") {
+        let access = operand.as_short().ok_or(WireFault::Shape(place))?;
         Ok(Step::Access(access))
     } else {
         Err(WireFault::Shape(place))
@@ -115,12 +124,12 @@ fn step_of<'v>(
 fn path_at<'v>(
     finder: &mut Finder<'_, 'v>,
     place: Place,
-    value: &'v Value,
+    operand: Scalar<'v>,
 ) -> Result<Node, WireFault>
-    ensures read { result ≡ path_at finder.old place (view value.now) }
+    ensures read { result ≡ path_at finder.old place (seen operand.entry) }
     ensures tree { finder.new ≡ finder.old }
 {
-    match value.as_str() {
+    match operand.as_str() {
         Some(path) => finder.node_on(place, path),
         None => Err(WireFault::Shape(place)),
     }
