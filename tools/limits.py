@@ -80,7 +80,6 @@ LIMITS = [
             ("README.md", "| batch | {} transactions,"),
             ("docs/FORMATS.md", "`lists`: more than {} lists are `limit`"),
             ("docs/SESSIONS.md", "A round has at most 16 lines and {} lists"),
-            ("docs/ARCHITECTURE.md", "on the next lines, up to {} lists"),
             ("docs/PROOFS.md", "as many as have at most {} lists"),
         ],
     ),
@@ -161,7 +160,6 @@ LIMITS = [
             ("docs/OPERATING.md", "So {} connections bound"),
             ("docs/OPERATING.md", "So two of the {} connection slots"),
             ("docs/OPERATING.md", "all {} connection slots are used"),
-            ("docs/ARCHITECTURE.md", "until one of {} connection slots"),
         ],
     ),
     (
@@ -190,26 +188,14 @@ LIMITS = [
         [
             ("docs/SESSIONS.md", "- At most {} callers wait with their lines;"),
             ("docs/SESSIONS.md", "A round has at most {} lines"),
-            ("docs/ARCHITECTURE.md", "and so on: at most {} of each"),
-            ("docs/ARCHITECTURE.md", "whose caller has one in it already, at most {}."),
             ("docs/DECISIONS.md", "the first lines of {} callers"),
         ],
     ),
-    (
-        "crates/grove_desk/src/pipeline.rt",
-        "MOST_TOGETHER",
-        [
-            ("docs/SESSIONS.md", "are put together, up to {} with"),
-            ("docs/DECISIONS.md", "are put together, up to {} with"),
-        ],
-    ),
+    ("crates/grove_desk/src/pipeline.rt", "MOST_TOGETHER", [("docs/SESSIONS.md", "are put together, up to {} with")]),
     (
         "crates/grove_desk/src/pipeline.rt",
         "MOST_BYTES",
-        [
-            ("docs/SESSIONS.md", "with at most {} bytes. They are answered"),
-            ("docs/DECISIONS.md", "up to 16 with at most {} bytes; each"),
-        ],
+        [("docs/SESSIONS.md", "with at most {} bytes. They are answered")],
     ),
     (
         "crates/grove_line/src/line_reader.rt",
@@ -303,7 +289,6 @@ LIMITS = [
         "crates/grove_store/src/worth.rt",
         "WORTH_THREADS",
         [
-            ("docs/ARCHITECTURE.md", "A round of fewer than {} steps"),
             ("docs/COMMANDS.md", "how many workers run a round of {} steps or more"),
             ("docs/SESSIONS.md", "only in rounds of {} steps or more"),
             ("docs/PROTOCOL.md", "A round of fewer than {} steps has none"),
@@ -334,7 +319,6 @@ LIMITS = [
         "crates/grove_desk/src/board.rt",
         "MOST_TAKEN",
         [
-            ("docs/ARCHITECTURE.md", "of each, and {} together"),
             ("docs/SESSIONS.md", "Up to {} lines leave together"),
             ("docs/DECISIONS.md", "the rounds of up to {} lines share"),
             ("docs/PAGE.md", "the rounds of up to {} lines share"),
