@@ -259,6 +259,15 @@ answered_part {T} before after lines part count receipts same are =
     (take-append-drop count lines)
     (answered_front before after (take count lines) part (drop count lines) receipts same are)
 
+-- the same of stores, lines and receipts that are the same
+pub answered_same : {T : Type 0} (before middle after : StoreState) (old now new : List (Asked T))
+    (receipts all : List ReceiptState) → after ≡ middle → new ≡ now → all ≡ receipts
+    → AreAnswered before middle old now receipts → AreAnswered before after old new all
+answered_same {T} before middle after old now new receipts all stores lines told are =
+    subst (λ (s : StoreState). AreAnswered before s old new all) (sym stores)
+    (subst (λ (ls : List (Asked T)). AreAnswered before middle old ls all) (sym lines)
+    (subst (λ (rs : List ReceiptState). AreAnswered before middle old now rs) (sym told) are))
+
 -- tickets of a part that stay
 pub tickets_part : {T : Type 0} (lines part : List (Asked T)) (count : ℕ)
     → map (λ asked. asked.ticket) part ≡ map (λ asked. asked.ticket) (take count lines)

@@ -81,7 +81,11 @@ fn answer_first<B: Opening, R: Threads + Wait + Sync, G: Gate + Sync, W: RoundWa
 {
     let count = round_length(lines);
     let began = watch.begin(rt);
-    let receipts = answer_noted(rt, alloc, store, journal, &mut lines[..count], gate)?;
+    let taken = &mut lines[..count];
+    let receipts = match journal {
+        Some(journal) => journal.answer(rt, alloc, store, taken, gate)?,
+        None => answer_taken(rt, alloc, store, None, taken, gate)?,
+    };
     watch.end(rt, began, &receipts);
     Ok(receipts)
 }
@@ -103,32 +107,4 @@ fn round_length<B: Opening>(lines: &[Asked<NamesOf<B>>]) -> usize
 /// Is there a line of the caller with this ticket?
 fn has_line<B: Opening>(lines: &[Asked<NamesOf<B>>], ticket: u64) -> bool {
     lines.iter().any(|asked| asked.ticket == ticket)
-}
-
-/// Answers the first of the lines in one round of the store, and notes it where a journal is kept. Where memory is
-/// refused, both are as they were.
-fn answer_noted<B: Opening, R: Threads + Wait + Sync, G: Gate + Sync>(
-    rt: &R,
-    alloc: Global,
-    store: &mut Store,
-    journal: &mut Option<Journal>,
-    taken: &mut [Asked<NamesOf<B>>],
-    gate: &G,
-) -> Result<Vec<Receipt>, NoMemory>
-    requires few { (0 < length taken.old) × (length taken.old ≤ 16) }
-    requires names { unweighed store.old.rows ≡ unweighed B.store.rows }
-    ensures answered { IfOk result
-        (λ receipts. AreAnswered store.old store.new taken.old taken.new receipts.items) }
-    ensures numbered { IfOk result (λ receipts. AreNumberedFrom (next_number journal.old) receipts.items) }
-    ensures journal { IfOk result
-        (λ receipts. journal.new
-        ≡ option_map (noted_in (record { before = store.old; receipts = receipts.items })) journal.old) }
-    ensures tickets { map (λ asked. asked.ticket) taken.new ≡ map (λ asked. asked.ticket) taken.old }
-    ensures err { OnErr result ((journal.new ≡ journal.old) × (store.new ≡ store.old)) }
-    ensures stay { OnErr result (journal.old ≡ None → taken.new ≡ taken.old) }
-{
-    match journal {
-        Some(journal) => journal.answer(rt, alloc, store, taken, gate),
-        None => answer_taken(rt, alloc, store, None, taken, gate),
-    }
 }
