@@ -1,5 +1,4 @@
-ghost use Rattle.std.specs.Prelude.{◌≡◌, ◌≤◌, false, length, IfOk};
-ghost use Rattle.std.specs.Io.KnownBytes.{ReadConsumes};
+ghost use Rattle.std.specs.Prelude.{◌≡◌, false};
 
 use crate::{DeviceFault, Source};
 use std::io::{self, ErrorKind, Read};
@@ -42,13 +41,18 @@ impl<R: Read> Source for ReaderSource<R> {
 
     fn read(&mut self, buffer: &mut [u8]) -> Result<usize, DeviceFault> {
         self.reads = self.reads.saturating_add(1);
-        match read_through(&mut self.reader, buffer) {
-            Ok(count) => Ok(count),
-            Err(error) => {
-                self.error = Some(error);
-                Err(DeviceFault)
+        for _ in 0..u64::MAX {
+            match self.reader.read(buffer) {
+                Ok(count) => return Ok(count),
+                Err(error) if error.kind() == ErrorKind::Interrupted => {}
+                Err(error) => {
+                    self.error = Some(error);
+                    return Err(DeviceFault);
+                }
             }
         }
+        self.error = Some(io::Error::from(ErrorKind::Interrupted));
+        Err(DeviceFault)
     }
 
     fn failed(&self) -> bool {
@@ -58,17 +62,4 @@ impl<R: Read> Source for ReaderSource<R> {
     fn reads(&self) -> u64 {
         self.reads
     }
-}
-
-fn read_through<R: Read>(reader: &mut R, buffer: &mut [u8]) -> io::Result<usize>
-    ensures bound { IfOk result (λ count. count ≤ length buffer.new) }
-    ensures bytes { ReadConsumes (R.remaining reader.old) (R.remaining reader.new) result buffer.new }
-{
-    for _ in 0..u64::MAX {
-        match reader.read(buffer) {
-            Err(error) if error.kind() == ErrorKind::Interrupted => {}
-            result => return result,
-        }
-    }
-    Err(io::Error::from(ErrorKind::Interrupted))
 }
