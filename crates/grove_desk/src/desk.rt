@@ -113,8 +113,9 @@ impl<B: Opening, K: Keeper + Drop> Desk<B, K> {
         self.answer_next(rt, alloc, &mut errand, seen, line, gate, &Unwatched)
     }
 
-    /// The same of the next line of a visitor. If lines of it are left that were put together, it is the first of them.
-    /// Of the rounds that this caller leads is learned.
+    /// The same of the next line of a visitor. If lines of it are left that were put together, it is the first of them:
+    /// they are put unless that one is settled, or this one if none are left. Of the rounds that this caller leads is
+    /// learned.
     pub(crate) fn answer_next<R: Threads + Wait + Sync, G: Gate + Sync, W: RoundWatch<R>>(
         &self,
         rt: &R,
@@ -131,31 +132,8 @@ impl<B: Opening, K: Keeper + Drop> Desk<B, K> {
         ensures foreign { result ≡ Err DeskFault.Foreign
             → AnswersAnother K.stands_for self.now line.now (option_copied seen.entry) }
     {
-        let receipt = self.receive(rt, alloc, errand, line, gate, watch)?;
-        if receipt.is_of(line) && receipt.follows(seen, self.kept) {
-            Ok(receipt)
-        } else {
-            Err(DeskFault::Foreign)
-        }
-    }
-
-    /// What the first of the lines that are left was answered. If it isn't settled, they are put, or this one if there
-    /// are none.
-    fn receive<R: Threads + Wait + Sync, G: Gate + Sync, W: RoundWatch<R>>(
-        &self,
-        rt: &R,
-        alloc: Global,
-        errand: &mut Errand<B, K>,
-        line: &[u8],
-        gate: &G,
-        watch: &W,
-    ) -> Result<Receipt, DeskFault>
-        requires { length line.now ≤ LINE_LIMIT }
-        ensures receipt { IfOk result (IsDeskReceipt K.stands_for B.store B.kept) }
-        ensures foreign { result ≡ Err DeskFault.Foreign → ⊥ }
-    {
         if let Some(done) = settled_first(&mut errand.lines) {
-            return Ok(done?);
+            return self.checked(done?, seen, line);
         }
         let leading = errand.leading;
         let _turn = if line.len() > LARGE_LINE {
@@ -168,7 +146,27 @@ impl<B: Opening, K: Keeper + Drop> Desk<B, K> {
         let (ticket, turn) = self.put(rt, put, leading, &mut taken)?;
         let (first, rest) = self.attend(rt, alloc, ticket, turn, leading, &mut taken, gate, watch);
         errand.lines = Some(rest);
-        Ok(first?)
+        self.checked(first?, seen, line)
+    }
+
+    /// The receipt, if it is this line's and comes after the one that was seen.
+    fn checked(
+        &self,
+        receipt: Receipt,
+        seen: Option<&Receipt>,
+        line: &[u8],
+    ) -> Result<Receipt, DeskFault>
+        requires { IsDeskReceipt K.stands_for B.store B.kept receipt }
+        ensures receipt { IfOk result
+            (IsReceiptFor K.stands_for self.now line.now (option_copied seen.entry)) }
+        ensures foreign { result ≡ Err DeskFault.Foreign
+            → AnswersAnother K.stands_for self.now line.now (option_copied seen.entry) }
+    {
+        if receipt.is_of(line) && receipt.follows(seen, self.kept) {
+            Ok(receipt)
+        } else {
+            Err(DeskFault::Foreign)
+        }
     }
 
     /// The lines that are left, or else a copy of this one.
