@@ -150,15 +150,8 @@ impl<B: Opening, K: Keeper> Ledger<B, K> {
         if self.failed {
             return Err(NoReceipt::Unkept);
         }
-        let receipts = answer_rounds(
-            rt,
-            alloc,
-            &mut self.store,
-            &mut self.journal,
-            taken,
-            gate,
-            watch,
-        )?;
+        let (store, journal) = (&mut self.store, &mut self.journal);
+        let receipts = answer_rounds(rt, alloc, store, journal, taken, gate, watch)?;
         match self.keeper.keep(alloc, &self.store) {
             Ok(()) => Ok(receipts),
             Err(Unkept) => {
