@@ -1,4 +1,4 @@
-ghost use Rattle.std.specs.Prelude.{◌≡◌, ◌≢◌, ◌<◌, ◌≤◌, ◌↔◌, length, IsTrue, IfOk, IfErr, IsErrOf, Some, None};
+ghost use Rattle.std.specs.Prelude.{◌≡◌, ◌≢◌, ◌<◌, ◌≤◌, ◌↔◌, length, IsTrue, IfOk, IfErr, IsErrOf, IfSome, Some, None};
 ghost use Rattle.std.specs.Prelude.{slice_get};
 ghost use Rattle.grove_access.specs.Lists.{nodes_of, lengths_of, AreNodes};
 ghost use Rattle.grove_access.specs.ListFaults.{AreLengths, AreListed, first_beyond as first_place_beyond};
@@ -47,17 +47,25 @@ impl AccessList {
         ensures refused { IfErr result (λ fault. fault ≢ ListFault.Memory → ¬ AreListed tree.now accesses.now) }
         ensures memory { IsErrOf result ListFault.Memory → list_fault_of tree.now accesses.now ≡ None }
     {
-        if accesses.len() > MOST_ACCESSES {
-            return Err(ListFault::TooLong);
+        match fault_of(tree, accesses) {
+            Some(fault) => Err(fault),
+            None => Ok(AccessList {
+                accesses: Vec::from_slice(alloc, accesses)?,
+            }),
         }
-        if let Some(access) = first_beyond(accesses, tree.len()) {
-            return Err(ListFault::NoNode(access));
+    }
+
+    /// The accesses themselves as a list over the tree. They are refused as by `new`, but never for memory.
+    pub fn of(tree: &Tree, accesses: Vec<Access>) -> Result<AccessList, ListFault>
+        ensures accesses { IfOk result (λ list. list ≡ accesses.items) }
+        ensures fitting { IfOk result (λ list. AreNodes tree.now (nodes_of list)) }
+        ensures fault { IfErr result (λ fault. list_fault_of tree.now accesses.items ≡ Some fault) }
+        ensures refused { IfErr result (λ _. ¬ AreListed tree.now accesses.items) }
+    {
+        match fault_of(tree, &accesses) {
+            Some(fault) => Err(fault),
+            None => Ok(AccessList { accesses }),
         }
-        if let Some(access) = first_bad_length(accesses) {
-            return Err(ListFault::BadLength(access));
-        }
-        let accesses = Vec::from_slice(alloc, accesses)?;
-        Ok(AccessList { accesses })
     }
 
     /// The number of accesses.
@@ -97,6 +105,22 @@ impl AccessList {
     {
         first_beyond(&self.accesses, tree.len()).is_none()
     }
+}
+
+// Why the accesses are no list over the tree.
+fn fault_of(tree: &Tree, accesses: &[Access]) -> Option<ListFault>
+    ensures fault { result ≡ list_fault_of tree.now accesses.now }
+    ensures listed { result ≡ None → AreListed tree.now accesses.now }
+    ensures refused { IfSome result (λ _. ¬ AreListed tree.now accesses.now) }
+{
+    if accesses.len() > MOST_ACCESSES {
+        return Some(ListFault::TooLong);
+    }
+    if let Some(access) = first_beyond(accesses, tree.len()) {
+        return Some(ListFault::NoNode(access));
+    }
+    let access = first_bad_length(accesses)?;
+    Some(ListFault::BadLength(access))
 }
 
 // The first access whose node is not among the first so many.

@@ -1,14 +1,14 @@
 -- Why nodes and lengths are no list over a tree.
 use Rattle.std.proofs.Common.{◌≡◌, ℕ, suc, ◌+◌, ◌<◌, ◌≤◌, ◌⊎◌, nat_lt, false, List, [], ◌∷◌, length, slice_get, Option}
 use Rattle.std.proofs.Common.{Some, None, refl, sym, ◌∙◌, subst, inl, inr, arith, option_map}
-use Rattle.std.specs.Prelude.{◌≢◌, Result, Ok, Err, IfErr}
+use Rattle.std.specs.Prelude.{Result, Ok, Err, IfErr}
 use Rattle.std.specs.Option.{option_or}
 use Rattle.std.proofs.lemmas.Option.{none-some, same_Some, slice_get_within}
 use Rattle.std.proofs.lemmas.Bool.{cond-true, cond-false, lt-ltb, le-ltb, cases_lt, cases_Bool, and_from, le-leb}
 use Rattle.grove_tree.specs.Trees.{Rows}
 use Rattle.grove_access.specs.declared.access.Access.{Access}
 use Rattle.grove_access.specs.declared.fault.ListFault.{ListFault}
-use Rattle.grove_access.specs.declared.fault.ListFault.TheVariants.{TooLong, NoNode, BadLength, Memory}
+use Rattle.grove_access.specs.declared.fault.ListFault.TheVariants.{TooLong, NoNode, BadLength}
 use Rattle.grove_access.specs.Lists.{nodes_of, lengths_of, is_length}
 use Rattle.grove_access.specs.ListFaults.{first_beyond, first_bad_length, list_fault_of}
 use Rattle.grove_access.proofs.Lists.{nodes_length}
@@ -70,24 +70,11 @@ fault_told : (rows : Rows) (accesses : List Access) (fault : ListFault) → leng
     → list_fault_of rows accesses ≡ Some fault → IsListFault rows (nodes_of accesses) (lengths_of accesses) fault
 fault_told rows accesses fault few is = grind (arith, by_places, cond-false, le-ltb)
 
-told : (rows : Rows) (accesses : List Access) (nodes lengths : List ℕ) (fault : ListFault) → nodes_of accesses ≡ nodes
-    → lengths_of accesses ≡ lengths → length nodes ≤ 64
-    → (fault ≢ Memory → list_fault_of rows accesses ≡ Some fault) → IsListFault rows nodes lengths fault
-told rows accesses nodes lengths Memory by_node by_length few is = tt
-told rows accesses nodes lengths TooLong by_node by_length few is = grind (arith, fault_told, nodes_length)
-told rows accesses nodes lengths (NoNode place) by_node by_length few is =
-    rw (← by_node, ← by_length) (fault_told rows accesses (NoNode place)
-    (subst (λ (n : ℕ). n ≤ 64) (nodes_length accesses) (subst (λ (xs : List ℕ). length xs ≤ 64) (sym by_node) few))
-    (is (λ e. absurd (cc))))
-told rows accesses nodes lengths (BadLength place) by_node by_length few is =
-    rw (← by_node, ← by_length) (fault_told rows accesses (BadLength place)
-    (subst (λ (n : ℕ). n ≤ 64) (nodes_length accesses) (subst (λ (xs : List ℕ). length xs ≤ 64) (sym by_node) few))
-    (is (λ e. absurd (cc))))
-
 -- so of what is answered
-pub refused : {T : Type 0} (rows : Rows) (passed accesses : List Access) (nodes lengths : List ℕ)
-    (result : Result T ListFault) → passed ≡ accesses → nodes_of accesses ≡ nodes → lengths_of accesses ≡ lengths
-    → length nodes ≤ 64 → IfErr result (λ fault. fault ≢ Memory → list_fault_of rows passed ≡ Some fault)
-    → IfErr result (IsListFault rows nodes lengths)
-refused rows passed accesses nodes lengths (Ok list) same by_node by_length few is = tt
-refused rows passed accesses nodes lengths (Err fault) same by_node by_length few is = grind (arith, told)
+pub refused : {T : Type 0} (rows : Rows) (accesses : List Access) (nodes lengths : List ℕ) (result : Result T ListFault)
+    → nodes_of accesses ≡ nodes → lengths_of accesses ≡ lengths → length nodes ≤ 64
+    → IfErr result (λ fault. list_fault_of rows accesses ≡ Some fault) → IfErr result (IsListFault rows nodes lengths)
+refused rows accesses nodes lengths (Ok list) by_node by_length few is = tt
+refused rows accesses nodes lengths (Err fault) by_node by_length few is =
+    rw (← by_node, ← by_length) (fault_told rows accesses fault
+    (subst (λ (n : ℕ). n ≤ 64) (nodes_length accesses) (subst (λ (xs : List ℕ). length xs ≤ 64) (sym by_node) few)) is)

@@ -50,7 +50,7 @@ fn list_over(
     let Ok(accesses) = reads_of(alloc, nodes, lengths) else {
         return Err(ListFault::Memory);
     };
-    AccessList::new(alloc, tree, &accesses)
+    AccessList::of(tree, accesses)
 }
 
 /// Accesses that read these nodes, each of its length.

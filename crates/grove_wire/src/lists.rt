@@ -11,7 +11,7 @@ use crate::document::items_in;
 use crate::forms::list_items;
 use crate::versions::{Version, version_of};
 use crate::{Part, Place, WireFault};
-use grove_access::{Access, AccessList, ListFault, MOST_ACCESSES};
+use grove_access::{Access, AccessList, MOST_ACCESSES};
 use grove_tree::Tree;
 use serde_json::Value;
 use std::alloc::Global;
@@ -61,11 +61,10 @@ pub(crate) fn list_of(
     ensures fitting { IfOk result (λ list. AreNodes tree.now (nodes_of list)) }
 {
     let accesses = read_accesses(alloc, tree, version, place, items)?;
-    match AccessList::new(alloc, tree, &accesses) {
-        Ok(list) => Ok(list),
-        Err(ListFault::Memory) => Err(WireFault::Memory),
-        Err(ListFault::TooLong | ListFault::NoNode(_) | ListFault::BadLength(_)) => unreachable!(),
-    }
+    let Ok(list) = AccessList::of(tree, accesses) else {
+        unreachable!()
+    };
+    Ok(list)
 }
 
 /// The accesses of a list, of which there are at most 64.

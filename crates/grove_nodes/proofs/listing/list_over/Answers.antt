@@ -3,5 +3,5 @@ use Rattle.grove_nodes.proofs.listing.list_over.Goals as goal
 
 pub returns-clause-fault : goal.returns-clause-fault
 returns-clause-fault c =
-    refused c.args.tree.now c.deref.result.now c.in-Ok.accesses.items c.args.nodes.now c.args.lengths.now c.new.result
-    c.deref.ensures.value c.in-Ok.ensures.nodes c.in-Ok.ensures.lengths c.requires.few c.new.ensures.fault
+    refused c.args.tree.now c.in-Ok.accesses.items c.args.nodes.now c.args.lengths.now c.of.result
+    c.in-Ok.ensures.nodes c.in-Ok.ensures.lengths c.requires.few c.of.ensures.fault

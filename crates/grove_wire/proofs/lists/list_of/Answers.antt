@@ -1,4 +1,3 @@
-use Rattle.std.proofs.Common.{rules}
 use Rattle.std.specs.Prelude.{map}
 use Rattle.serde_json.specs.View.{view}
 use Rattle.grove_wire.proofs.Fitting.{accesses_fit}
@@ -8,4 +7,4 @@ pub unreachable-requires : goal.unreachable-requires
 unreachable-requires c =
     let listed = accesses_fit c.args.tree.now c.args.version c.args.place (map view c.args.items.now)
     c.in_ok-accesses.accesses.items c.in_ok-accesses.ensures in
-    c.in-Err-TooLong.ensures.refused (λ e. search rules) (rw c.deref.ensures.value listed)
+    c.in_default.ensures.refused listed
