@@ -1,6 +1,6 @@
 -- Texts that answer lines, and what is added to them.
-use Rattle.std.proofs.Common.{◌≡◌, ℕ, ◌<◌, ◌≤◌, Bool, List, [], ◌∷◌, ◌++◌, Some, length, take, Result, Ok, Err, refl}
-use Rattle.std.proofs.Common.{sym, ap, subst, ◌∙◌, append_assoc, arith, length-append}
+use Rattle.std.proofs.Common.{◌≡◌, ℕ, ◌<◌, ◌≤◌, Bool, List, [], ◌∷◌, ◌++◌, Option, Some, length, take, Result, Ok, Err}
+use Rattle.std.proofs.Common.{refl, sym, ap, subst, ◌∙◌, append_assoc, arith, length-append}
 use Rattle.std.specs.Prelude.{slice_get}
 use Rattle.std.proofs.lemmas.List.{take-append-le}
 use Rattle.std.proofs.Math.Seq.{take-append_seam, take-append-add}
@@ -10,7 +10,7 @@ use Rattle.grove_session.specs.declared.intake.Intake.{Intake}
 use Rattle.grove_session.specs.declared.session_fault.SessionFault.{SessionFault}
 use Rattle.grove_session.specs.declared.session_fault.SessionFault.TheVariants.{Read, Write, Memory, Turns, Foreign, Unkept}
 use Rattle.grove_session.specs.Sessions.{Lawful, IsReplied, IsAnswered, StopsBefore, StopsWithin}
-use Rattle.grove_session.specs.Intakes.{held_line, IsHeldReplied, SendsWhole, SendsInPart, Sends, AnswersNext, EndsAmong}
+use Rattle.grove_session.specs.Intakes.{IsHeldReplied, SendsWhole, SendsInPart, Sends, AnswersNext, EndsAmong}
 
 -- the line behind lines
 pub get_here : (lines others : List (List ℕ)) (line : List ℕ) → slice_get (lines ++ line ∷ others) (length lines) ≡ Some line
@@ -111,16 +111,17 @@ module _ {S : Type 0} (lawful : Lawful S) where
   ends_among shared lines others old new Read text h = absurd h
   ends_among shared lines others old new Turns text h = absurd h
 
--- what is sent is the reply to the line that is held, with its line feed
-pub answers_next : {S T : Type 0} (lawful : Lawful S) (old new : S) (before after : Intake) (reply text : List ℕ) (result : Result T SessionFault) (more : List ℕ)
-    → IsHeldReplied lawful old (held_line before.line) reply new → text ≡ reply ++ 10 ∷ [] → Sends before text result more after
-    → AnswersNext lawful old before result more new after
-answers_next lawful old new before after reply text (Ok done) more replied is sends =
-    record { reply = reply; replied = replied; sends = subst (λ (t : List ℕ). SendsWhole before t more after) is sends }
-answers_next lawful old new before after reply text (Err (Write n)) more replied is sends =
+-- what is sent is the reply to the line, with its line feed
+pub answers_next : {S T : Type 0} (lawful : Lawful S) (old new : S) (done : ℕ) (line : Option (List ℕ))
+    (reply text : List ℕ) (result : Result T SessionFault) (more : List ℕ) (after : Intake)
+    → IsHeldReplied lawful old line reply new → text ≡ reply ++ 10 ∷ [] → Sends done text result more after
+    → AnswersNext lawful old done line result more new after
+answers_next lawful old new done line reply text (Ok _) more after replied is sends =
+    record { reply = reply; replied = replied; sends = subst (λ (t : List ℕ). SendsWhole done t more after) is sends }
+answers_next lawful old new done line reply text (Err (Write n)) more after replied is sends =
     record { reply = reply; replied = replied; sends = subst (λ (t : List ℕ). SendsInPart t more) is sends }
-answers_next lawful old new before after reply text (Err Memory) more replied is sends = absurd sends
-answers_next lawful old new before after reply text (Err Foreign) more replied is sends = absurd sends
-answers_next lawful old new before after reply text (Err Unkept) more replied is sends = absurd sends
-answers_next lawful old new before after reply text (Err Read) more replied is sends = absurd sends
-answers_next lawful old new before after reply text (Err Turns) more replied is sends = absurd sends
+answers_next lawful old new done line reply text (Err Memory) more after replied is sends = absurd sends
+answers_next lawful old new done line reply text (Err Foreign) more after replied is sends = absurd sends
+answers_next lawful old new done line reply text (Err Unkept) more after replied is sends = absurd sends
+answers_next lawful old new done line reply text (Err Read) more after replied is sends = absurd sends
+answers_next lawful old new done line reply text (Err Turns) more after replied is sends = absurd sends

@@ -1,5 +1,5 @@
 -- How a session goes on with the bytes that it reads.
-use Rattle.std.proofs.Common.{◌≡◌, ℕ, ◌+◌, Bool, true, false, cond, List, [], ◌∷◌, ◌++◌, Option, None, Some, Result}
+use Rattle.std.proofs.Common.{◌≡◌, ℕ, ◌+◌, Bool, true, false, cond, List, [], ◌∷◌, ◌++◌, Option, None, Some}
 use Rattle.std.proofs.Common.{Ok, Err, length, take, refl, sym, ap, subst, ◌∙◌, append_assoc, append-nil, inl, inr}
 use Rattle.std.proofs.Common.{arith, length-append}
 use Rattle.std.specs.Prelude.{slice_get, nat_lt}
@@ -14,7 +14,8 @@ use Rattle.grove_session.specs.Sessions.{Lawful, UnlessLong, whole_lines, rest_o
 use Rattle.grove_session.specs.Cuts.{IsFeedless}
 use Rattle.grove_session.specs.Intakes.{clip, with_bytes, held_line, IsHeldReplied, RepliesWhole, FailsNext, IsApart}
 use Rattle.grove_session.specs.Intakes.{Tells, IsUnderWay, EndsAmong, Continues, Breaks, Finishes}
-use Rattle.grove_session.proofs.Lines.{whole_lines-feed, rest_of-feed, whole_lines-feedless, rest_of-feedless, lines_from-append}
+use Rattle.grove_session.proofs.Lines.{whole_lines-feedless, rest_of-feedless, whole_lines-line, rest_of-line}
+use Rattle.grove_session.proofs.Lines.{lines_from-append}
 use Rattle.grove_session.proofs.Answering.{one_more_answer, get_here, take_before, stops_before, stops_within, ends_among}
 
 -- ---- a line that is held
@@ -54,14 +55,23 @@ module _ {S : Type 0} (shared : Bool) (lawful : Lawful S) where
   held_replied old line reply held new is h =
       unless_long (nat_lt 1048576 (length line)) old line reply new (subst (λ (it : Option (List ℕ)). IsHeldReplied lawful old it reply new) is h)
 
-  -- the line that is held is one answer more
-  answered_with : (first old new : S) (input text more : List ℕ) (before after : Intake) → IsUnderWay lawful first input text old before
-      → RepliesWhole lawful old before more new after → IsAnswered lawful first (whole_lines input ++ rest_of input ∷ []) (text ++ more) new
-  answered_with first old new input text more before after h whole =
-      subst (λ (t : List ℕ). IsAnswered lawful first (whole_lines input ++ rest_of input ∷ []) t new)
+  -- what is held of a line and the bytes that end it are as much of the whole line
+  ended : (first old : S) (input text bytes : List ℕ) (before : Intake) → IsUnderWay lawful first input text old before
+      → with_bytes (held_line before.line) bytes ≡ clip (rest_of input ++ bytes)
+  ended first old input text bytes before h =
+      ap (λ (it : Option (List ℕ)). with_bytes it bytes) h.held ∙ clip-grow (rest_of input) bytes
+
+  -- a line that was begun and ends with these bytes is one answer more
+  answered_with : (first old new : S) (input text bytes more : List ℕ) (before after : Intake)
+      → IsUnderWay lawful first input text old before
+      → RepliesWhole lawful old before.answered (with_bytes (held_line before.line) bytes) more new after
+      → IsAnswered lawful first (whole_lines input ++ (rest_of input ++ bytes) ∷ []) (text ++ more) new
+  answered_with first old new input text bytes more before after h whole =
+      let line = rest_of input ++ bytes in
+      subst (λ (t : List ℕ). IsAnswered lawful first (whole_lines input ++ line ∷ []) t new)
       (append_assoc text whole.reply (10 ∷ []) ∙ ap (λ (t : List ℕ). text ++ t) (sym whole.sends.sent))
-      (one_more_answer lawful (whole_lines input) (rest_of input) first old new text whole.reply h.answers
-      (held_replied old (rest_of input) whole.reply (held_line before.line) new h.held whole.replied))
+      (one_more_answer lawful (whole_lines input) line first old new text whole.reply h.answers
+      (held_replied old line whole.reply _ new (ended first old input text bytes before h) whole.replied))
 
   -- ---- nothing, and one after the other
 
@@ -128,15 +138,21 @@ module _ {S : Type 0} (shared : Bool) (lawful : Lawful S) where
   rest_goes old mid before between after front rest bytes more all one two =
       subst (λ (it : List ℕ). Continues lawful old before it (more ++ []) mid after) all (continues_then old mid mid before between after front rest more [] one two)
 
-  -- a line feed, whose line is answered
-  pub feed_goes : (old new : S) (before after : Intake) (more : List ℕ) → RepliesWhole lawful old before more new after → Continues lawful old before (10 ∷ []) more new after
-  feed_goes old new before after more whole = record {
-    on = λ first input text h. record {
-      answers = subst (λ (ls : List (List ℕ)). IsAnswered lawful first ls (text ++ more) new) (sym (whole_lines-feed input []))
-          (answered_with first old new input text more before after h whole);
-      held = whole.sends.fresh ∙ ap clip (sym (rest_of-feed input));
-      answered = whole.sends.answered ∙ ap (λ (n : ℕ). n + 1) h.answered ∙ sym (length_push (whole_lines input) (rest_of input)) ∙ ap (length {A = List ℕ}) (sym (whole_lines-feed input []));
-    };
+  -- bytes and a line feed, whose line is answered
+  pub line_goes : (old new : S) (before after : Intake) (bytes more : List ℕ) → IsFeedless bytes
+      → RepliesWhole lawful old before.answered (with_bytes (held_line before.line) bytes) more new after
+      → Continues lawful old before (bytes ++ 10 ∷ []) more new after
+  line_goes old new before after bytes more none whole = record {
+    on = λ first input text h.
+        let lines = whole_lines-line input bytes none in
+        record {
+          answers = subst (λ (ls : List (List ℕ)). IsAnswered lawful first ls (text ++ more) new) (sym lines)
+              (answered_with first old new input text bytes more before after h whole);
+          held = whole.sends.fresh ∙ ap clip (sym (rest_of-line input bytes));
+          answered = whole.sends.answered ∙ ap (λ (n : ℕ). n + 1) h.answered
+              ∙ sym (length_push (whole_lines input) (rest_of input ++ bytes))
+              ∙ ap (length {A = List ℕ}) (sym lines);
+        };
   }
 
   -- ---- faults
@@ -148,38 +164,44 @@ module _ {S : Type 0} (shared : Bool) (lawful : Lawful S) where
       subst (λ (t : List ℕ). IsAnswered lawful first (whole_lines input) t new) (sym (append-nil text) ∙ ap (λ (t : List ℕ). text ++ t) (sym none))
       (subst (λ (s : S). IsAnswered lawful first (whole_lines input) text s) (sym same) h.answers)
 
-  -- the line that is held has no reply, or one that didn't go out whole
-  among : (first old new : S) (input text more : List ℕ) (others : List (List ℕ)) (before : Intake) (fault : SessionFault)
-      → IsUnderWay lawful first input text old before → FailsNext lawful old before fault more new
-      → EndsAmong shared lawful first (whole_lines input ++ rest_of input ∷ others) fault (text ++ more) new
-  among first old new input text more others before (Write n) h part =
-      stops_within lawful shared (whole_lines input) others (rest_of input) first old new text more part.reply h.answers
-      (held_replied old (rest_of input) part.reply (held_line before.line) new h.held part.replied)
+  -- a line that was begun and ends with these bytes has no reply, or one that didn't go out whole
+  among : (first old new : S) (input text bytes more : List ℕ) (others : List (List ℕ)) (before : Intake)
+      (fault : SessionFault) → IsUnderWay lawful first input text old before
+      → FailsNext lawful old (with_bytes (held_line before.line) bytes) fault more new
+      → EndsAmong shared lawful first (whole_lines input ++ (rest_of input ++ bytes) ∷ others) fault (text ++ more) new
+  among first old new input text bytes more others before (Write n) h part =
+      let line = rest_of input ++ bytes in
+      stops_within lawful shared (whole_lines input) others line first old new text more part.reply h.answers
+      (held_replied old line part.reply _ new (ended first old input text bytes before h) part.replied)
       part.sends.unfinished part.sends.cut
-  among first old new input text more others before Memory h (none, same) =
-      stops_before lawful (whole_lines input) (rest_of input ∷ others) first new (text ++ more) (still first old new input text more before h none same)
-  among first old new input text more others before Foreign h (none, same) = (
-    rest_of input,
+  among first old new input text bytes more others before Memory h (none, same) =
+      stops_before lawful (whole_lines input) ((rest_of input ++ bytes) ∷ others) first new (text ++ more)
+      (still first old new input text more before h none same)
+  among first old new input text bytes more others before Foreign h (none, same) = (
+    rest_of input ++ bytes,
     length (whole_lines input),
-    get_here (whole_lines input) others (rest_of input),
-    take_before lawful (whole_lines input) (rest_of input ∷ others) first new (text ++ more) (still first old new input text more before h none same),
+    get_here (whole_lines input) others (rest_of input ++ bytes),
+    take_before lawful (whole_lines input) ((rest_of input ++ bytes) ∷ others) first new (text ++ more)
+        (still first old new input text more before h none same),
   )
-  among first old new input text more others before Unkept h (none, same) = (
-    rest_of input,
+  among first old new input text bytes more others before Unkept h (none, same) = (
+    rest_of input ++ bytes,
     length (whole_lines input),
-    get_here (whole_lines input) others (rest_of input),
-    take_before lawful (whole_lines input) (rest_of input ∷ others) first new (text ++ more) (still first old new input text more before h none same),
+    get_here (whole_lines input) others (rest_of input ++ bytes),
+    take_before lawful (whole_lines input) ((rest_of input ++ bytes) ∷ others) first new (text ++ more)
+        (still first old new input text more before h none same),
   )
-  among first old new input text more others before Read h none = absurd none
-  among first old new input text more others before Turns h none = absurd none
+  among first old new input text bytes more others before Read h none = absurd none
+  among first old new input text bytes more others before Turns h none = absurd none
 
-  -- a line feed, whose line isn't answered whole
-  pub feed_breaks : (old new : S) (before : Intake) (more : List ℕ) (fault : SessionFault)
-      → FailsNext lawful old before fault more new → Breaks shared lawful old before (10 ∷ []) more fault new
-  feed_breaks old new before more fault h = record {
+  -- bytes and a line feed, whose line isn't answered whole
+  pub line_breaks : (old new : S) (before : Intake) (bytes more : List ℕ) (fault : SessionFault) → IsFeedless bytes
+      → FailsNext lawful old (with_bytes (held_line before.line) bytes) fault more new
+      → Breaks shared lawful old before (bytes ++ 10 ∷ []) more fault new
+  line_breaks old new before bytes more fault none h = record {
     off = λ first input text under. subst (λ (ls : List (List ℕ)).
-        EndsAmong shared lawful first ls fault (text ++ more) new) (sym (whole_lines-feed input []))
-        (among first old new input text more [] before fault under h);
+        EndsAmong shared lawful first ls fault (text ++ more) new) (sym (whole_lines-line input bytes none))
+        (among first old new input text bytes more [] before fault under h);
   }
 
   -- bytes for which there is no room
@@ -206,12 +228,13 @@ module _ {S : Type 0} (shared : Bool) (lawful : Lawful S) where
   ends_so first new left input text Turns h counted = absurd h
 
   -- a fault among the lines with the last one, which isn't answered, ends the session
-  ends_last : (first old new : S) (left : Option (List ℕ)) (input text more : List ℕ) (before : Intake) (fault : SessionFault) → IsAtEnd left
-      → lines_of input ≡ whole_lines input ++ rest_of input ∷ [] → IsUnderWay lawful first input text old before
-      → FailsNext lawful old before fault more new → Tells fault (text ++ more)
+  ends_last : (first old new : S) (left : Option (List ℕ)) (input text more : List ℕ) (before : Intake)
+      (fault : SessionFault) → IsAtEnd left → lines_of input ≡ whole_lines input ++ (rest_of input ++ []) ∷ []
+      → IsUnderWay lawful first input text old before
+      → FailsNext lawful old (with_bytes (held_line before.line) []) fault more new → Tells fault (text ++ more)
       → SessionEnds shared lawful first (Err fault) left input (text ++ more) new
   ends_last first old new left input text more before (Write n) at_end all under h counted =
-      let within = among first old new input text more [] before (Write n) under h in (
+      let within = among first old new input text [] more [] before (Write n) under h in (
         counted,
         (
           lines_of input,
@@ -220,10 +243,14 @@ module _ {S : Type 0} (shared : Bool) (lawful : Lawful S) where
         ),
       )
   ends_last first old new left input text more before Memory at_end all under (none, same) counted =
-      let answered = still first old new input text more before under none same in
-      (length (whole_lines input), omega arith, subst (λ (ls : List (List ℕ)). IsAnswered lawful first ls (text ++ more) new) (sym (take-length (whole_lines input))) answered)
+      let answered = still first old new input text more before under none same in (
+        length (whole_lines input),
+        omega arith,
+        subst (λ (ls : List (List ℕ)).
+            IsAnswered lawful first ls (text ++ more) new) (sym (take-length (whole_lines input))) answered,
+      )
   ends_last first old new left input text more before Foreign at_end all under h counted =
-      let (line, done, next, answered) = among first old new input text more [] before Foreign under h in (
+      let (line, done, next, answered) = among first old new input text [] more [] before Foreign under h in (
         lines_of input,
         line,
         done,
@@ -232,7 +259,7 @@ module _ {S : Type 0} (shared : Bool) (lawful : Lawful S) where
         subst (λ (ls : List (List ℕ)). IsAnswered lawful first (take done ls) (text ++ more) new) (sym all) answered,
       )
   ends_last first old new left input text more before Unkept at_end all under h counted =
-      let (line, done, next, answered) = among first old new input text more [] before Unkept under h in (
+      let (line, done, next, answered) = among first old new input text [] more [] before Unkept under h in (
         lines_of input,
         line,
         done,
@@ -243,43 +270,39 @@ module _ {S : Type 0} (shared : Bool) (lawful : Lawful S) where
   ends_last first old new left input text more before Read at_end all under h counted = absurd h
   ends_last first old new left input text more before Turns at_end all under h counted = absurd h
 
-  -- a line that is held is a last one
-  lines_with_last : (first old : S) (input text : List ℕ) (before : Intake) → IsUnderWay lawful first input text old before → (held_line before.line ≡ Some [] → ⊥)
-      → lines_of input ≡ whole_lines input ++ rest_of input ∷ []
+  -- a line that is held is a last one, and ends with no more bytes
+  lines_with_last : (first old : S) (input text : List ℕ) (before : Intake)
+      → IsUnderWay lawful first input text old before → (held_line before.line ≡ Some [] → ⊥)
+      → lines_of input ≡ whole_lines input ++ (rest_of input ++ []) ∷ []
   lines_with_last first old input text before under some =
-      ap (λ (ls : List (List ℕ)). whole_lines input ++ ls) (last_line-some (rest_of input) (λ none. some (under.held ∙ ap clip none)))
+      ap (λ (ls : List (List ℕ)). whole_lines input ++ ls)
+      (last_line-some (rest_of input) (λ none. some (under.held ∙ ap clip none))
+      ∙ ap (λ (line : List ℕ). line ∷ []) (sym (append-nil (rest_of input))))
 
   -- the last line is answered
-  pub finishes_with_last : (old new : S) (before after : Intake) (more : List ℕ) → (held_line before.line ≡ Some [] → ⊥) → RepliesWhole lawful old before more new after
+  pub finishes_with_last : (old new : S) (before after : Intake) (more : List ℕ)
+      → (held_line before.line ≡ Some [] → ⊥)
+      → RepliesWhole lawful old before.answered (with_bytes (held_line before.line) []) more new after
       → Finishes shared lawful old before (Ok after.answered) more new after
   finishes_with_last old new before after more some whole = record {
     ends = λ first input text left under at_end written apart.
         let all = lines_with_last first old input text before under some in (
           at_end,
-          whole.sends.answered ∙ ap (λ (n : ℕ). n + 1) under.answered ∙ sym (length_push (whole_lines input) (rest_of input)) ∙ ap (length {A = List ℕ}) (sym all),
-          subst (λ (ls : List (List ℕ)). IsAnswered lawful first ls (text ++ more) new) (sym all) (answered_with first old new input text more before after under whole),
+          whole.sends.answered ∙ ap (λ (n : ℕ). n + 1) under.answered
+              ∙ sym (length_push (whole_lines input) (rest_of input ++ [])) ∙ ap (length {A = List ℕ}) (sym all),
+          subst (λ (ls : List (List ℕ)). IsAnswered lawful first ls (text ++ more) new) (sym all)
+              (answered_with first old new input text [] more before after under whole),
         );
   }
 
   -- the last line isn't answered whole
   pub finishes_in_part : (old new : S) (before after : Intake) (more : List ℕ) (fault : SessionFault)
       → (held_line before.line ≡ Some [] → ⊥)
-      → FailsNext lawful old before fault more new → Finishes shared lawful old before (Err fault) more new after
+      → FailsNext lawful old (with_bytes (held_line before.line) []) fault more new
+      → Finishes shared lawful old before (Err fault) more new after
   finishes_in_part old new before after more fault some h = record {
     ends = λ first input text left under at_end written apart.
         ends_last first old new left input text more before fault at_end
         (lines_with_last first old input text before under some) under h
         (apart_tells fault after (text ++ more) apart written);
-  }
-
-  -- the same of what has the same line and count
-  pub finishes_for : (old new : S) (before other after : Intake) (result : Result ℕ SessionFault) (more : List ℕ)
-      → other.line ≡ before.line → other.answered ≡ before.answered
-      → Finishes shared lawful old other result more new after → Finishes shared lawful old before result more new after
-  finishes_for old new before other after result more line answered h = record {
-    ends = λ first input text left under. h.ends first input text left (record {
-      answers = under.answers;
-      held = ap held_line line ∙ under.held;
-      answered = answered ∙ under.answered;
-    });
   }

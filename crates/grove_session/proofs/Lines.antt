@@ -33,15 +33,7 @@ rest_from-append line (x ∷ xs) ys =
     rest_by_cases (eqb x 10) (rest_from [] (xs ++ ys)) (rest_from (line ++ x ∷ []) (xs ++ ys)) (rest_from [] xs) (rest_from (line ++ x ∷ []) xs) ys
     (rest_from-append [] xs ys) (rest_from-append (line ++ x ∷ []) xs ys)
 
--- ---- a byte more
-
--- a line feed ends the line before it
-pub whole_lines-feed : (input bytes : List ℕ) → whole_lines (input ++ 10 ∷ bytes) ≡ whole_lines input ++ rest_of input ∷ lines_from [] bytes
-whole_lines-feed input bytes = lines_from-append [] input (10 ∷ bytes)
-
--- and begins a line
-pub rest_of-feed : (input : List ℕ) → rest_of (input ++ 10 ∷ []) ≡ []
-rest_of-feed input = rest_from-append [] input (10 ∷ [])
+-- ---- bytes of one line
 
 -- bytes without a line feed end no line, and are more of the one that is begun
 feedless_from : (bytes line : List ℕ) → IsFeedless bytes → (lines_from line bytes ≡ []) × (rest_from line bytes ≡ line ++ bytes)
@@ -63,6 +55,21 @@ whole_lines-feedless input bytes none =
 -- and are more of its line
 pub rest_of-feedless : (input bytes : List ℕ) → IsFeedless bytes → rest_of (input ++ bytes) ≡ rest_of input ++ bytes
 rest_of-feedless input bytes none = rest_from-append [] input bytes ∙ (feedless_from bytes (rest_of input) none).1
+
+-- with a line feed behind them they end it
+pub whole_lines-line : (input bytes : List ℕ) → IsFeedless bytes
+    → whole_lines (input ++ (bytes ++ 10 ∷ [])) ≡ whole_lines input ++ (rest_of input ++ bytes) ∷ []
+whole_lines-line input bytes none =
+    let here = feedless_from bytes (rest_of input) none in
+    lines_from-append [] input (bytes ++ 10 ∷ [])
+    ∙ ap (λ (ls : List (List ℕ)). whole_lines input ++ ls) (lines_from-append (rest_of input) bytes (10 ∷ [])
+    ∙ ap (λ (ls : List (List ℕ)). ls ++ rest_from (rest_of input) bytes ∷ []) here.0
+    ∙ ap (λ (line : List ℕ). line ∷ []) here.1)
+
+-- and the next begins
+pub rest_of-line : (input bytes : List ℕ) → rest_of (input ++ (bytes ++ 10 ∷ [])) ≡ []
+rest_of-line input bytes =
+    rest_from-append [] input (bytes ++ 10 ∷ []) ∙ rest_from-append (rest_of input) bytes (10 ∷ [])
 
 -- ---- the first line feed of bytes
 

@@ -63,15 +63,15 @@ goes_text a b held written count more went none counted = record {
 }
 
 -- of a text that didn't go out nothing did
-pub sends_nothing : (before after : Intake) (text : List ℕ) (fault : SessionFault)
+pub sends_nothing : (done : ℕ) (after : Intake) (text : List ℕ) (fault : SessionFault)
     → is_write {T = Unit {0}} (Err fault) ≡ true → 0 < length text
-    → Sends {T = Unit {0}} before text (Err fault) [] after
-sends_nothing before after text (Write n) is some = record { unfinished = some; cut = refl }
-sends_nothing before after text Read is some = absurd (false≢true is)
-sends_nothing before after text Memory is some = absurd (false≢true is)
-sends_nothing before after text Turns is some = absurd (false≢true is)
-sends_nothing before after text Foreign is some = absurd (false≢true is)
-sends_nothing before after text Unkept is some = absurd (false≢true is)
+    → Sends {T = Unit {0}} done text (Err fault) [] after
+sends_nothing done after text (Write n) is some = record { unfinished = some; cut = refl }
+sends_nothing done after text Read is some = absurd (false≢true is)
+sends_nothing done after text Memory is some = absurd (false≢true is)
+sends_nothing done after text Turns is some = absurd (false≢true is)
+sends_nothing done after text Foreign is some = absurd (false≢true is)
+sends_nothing done after text Unkept is some = absurd (false≢true is)
 
 -- the first bytes of a text
 pub part_of : (n : ℕ) (text : List ℕ) → n < length text → SendsInPart text (take n text)

@@ -71,53 +71,54 @@ pub record GoesOut (old new : Option (List ℕ)) (held : List ℕ) (written : �
 abbrev pub Passes : Option (List ℕ) → Option (List ℕ) → Intake → List ℕ → Intake → Type 0
 Passes old new before more after = GoesOut old new before.held.items before.written more after.held.items after.written
 
--- ---- the line that is held is answered
+-- ---- a line is answered
 
--- a text went out or is held, and the next line begins
-pub record SendsWhole (before : Intake) (text more : List ℕ) (after : Intake) : Type 0 where
+-- a text went out or is held behind so many replies, and the next line begins
+pub record SendsWhole (done : ℕ) (text more : List ℕ) (after : Intake) : Type 0 where
   pub sent : more ≡ text
   pub fresh : held_line after.line ≡ Some []
-  pub answered : after.answered ≡ before.answered + 1
+  pub answered : after.answered ≡ done + 1
 
 -- it didn't go out whole
 pub record SendsInPart (text more : List ℕ) : Type 0 where
   pub unfinished : length more < length text
   pub cut : more ≡ take (length more) text
 
-abbrev pub Sends : {T : Type 0} → Intake → List ℕ → Result T SessionFault → List ℕ → Intake → Type 0
-Sends before text (Ok _) more after = SendsWhole before text more after
-Sends before text (Err (Write n)) more after = SendsInPart text more
-Sends before text (Err Read) more after = ⊥
-Sends before text (Err Memory) more after = ⊥
-Sends before text (Err Turns) more after = ⊥
-Sends before text (Err Foreign) more after = ⊥
-Sends before text (Err Unkept) more after = ⊥
+abbrev pub Sends : {T : Type 0} → ℕ → List ℕ → Result T SessionFault → List ℕ → Intake → Type 0
+Sends done text (Ok _) more after = SendsWhole done text more after
+Sends done text (Err (Write n)) more after = SendsInPart text more
+Sends done text (Err Read) more after = ⊥
+Sends done text (Err Memory) more after = ⊥
+Sends done text (Err Turns) more after = ⊥
+Sends done text (Err Foreign) more after = ⊥
+Sends done text (Err Unkept) more after = ⊥
 
--- the line that is held has this reply, and it goes out with a line feed
-pub record RepliesWhole {S : Type 0} (lawful : Lawful S) (old : S) (before : Intake) (more : List ℕ) (new : S)
-    (after : Intake) : Type 0 where
+-- the line has this reply, and it goes out with a line feed
+pub record RepliesWhole {S : Type 0} (lawful : Lawful S) (old : S) (done : ℕ) (line : Option (List ℕ))
+    (more : List ℕ) (new : S) (after : Intake) : Type 0 where
   pub reply : List ℕ
-  pub replied : IsHeldReplied lawful old (held_line before.line) reply new
-  pub sends : SendsWhole before (reply ++ 10 ∷ []) more after
+  pub replied : IsHeldReplied lawful old line reply new
+  pub sends : SendsWhole done (reply ++ 10 ∷ []) more after
 
-pub record RepliesInPart {S : Type 0} (lawful : Lawful S) (old : S) (before : Intake) (more : List ℕ) (new : S) : Type
-    0 where
+pub record RepliesInPart {S : Type 0} (lawful : Lawful S) (old : S) (line : Option (List ℕ)) (more : List ℕ)
+    (new : S) : Type 0 where
   pub reply : List ℕ
-  pub replied : IsHeldReplied lawful old (held_line before.line) reply new
+  pub replied : IsHeldReplied lawful old line reply new
   pub sends : SendsInPart (reply ++ 10 ∷ []) more
 
 -- or it has none, or a sink failed within it
-abbrev pub FailsNext : {S : Type 0} → Lawful S → S → Intake → SessionFault → List ℕ → S → Type 0
-FailsNext lawful old before (Write n) more new = RepliesInPart lawful old before more new
-FailsNext lawful old before Memory more new = (more ≡ []) × (new ≡ old)
-FailsNext lawful old before Foreign more new = (more ≡ []) × (new ≡ old)
-FailsNext lawful old before Unkept more new = (more ≡ []) × (new ≡ old)
-FailsNext lawful old before Read more new = ⊥
-FailsNext lawful old before Turns more new = ⊥
+abbrev pub FailsNext : {S : Type 0} → Lawful S → S → Option (List ℕ) → SessionFault → List ℕ → S → Type 0
+FailsNext lawful old line (Write n) more new = RepliesInPart lawful old line more new
+FailsNext lawful old line Memory more new = (more ≡ []) × (new ≡ old)
+FailsNext lawful old line Foreign more new = (more ≡ []) × (new ≡ old)
+FailsNext lawful old line Unkept more new = (more ≡ []) × (new ≡ old)
+FailsNext lawful old line Read more new = ⊥
+FailsNext lawful old line Turns more new = ⊥
 
-abbrev pub AnswersNext : {S T : Type 0} → Lawful S → S → Intake → Result T SessionFault → List ℕ → S → Intake → Type 0
-AnswersNext lawful old before (Ok _) more new after = RepliesWhole lawful old before more new after
-AnswersNext lawful old before (Err fault) more new after = FailsNext lawful old before fault more new
+abbrev pub AnswersNext : {S T : Type 0} → Lawful S → S → ℕ → Option (List ℕ) → Result T SessionFault → List ℕ → S
+    → Intake → Type 0
+AnswersNext lawful old done line (Ok _) more new after = RepliesWhole lawful old done line more new after
+AnswersNext lawful old done line (Err fault) more new after = FailsNext lawful old line fault more new
 
 -- ---- bytes are taken
 

@@ -31,7 +31,7 @@ pub(crate) struct Intake {
 
 impl Intake {
     ghost use Rattle.grove_session.specs.Intakes.{held_line, HoldsNone, IsApart, IsOwn, Passes, SendsHeld};
-    ghost use Rattle.grove_session.specs.Intakes.{AnswersNext, TakesBytes, Finishes};
+    ghost use Rattle.grove_session.specs.Intakes.{with_bytes, AnswersNext, TakesBytes, Finishes};
 
     /// A session that has read nothing. It holds up to so many bytes of replies back, to send them together.
     pub(crate) fn new(alloc: Global, most_held: usize) -> Intake
@@ -100,8 +100,7 @@ impl Intake {
         let mut rest = bytes;
         while let Some(length) = memchr(b'\n', rest) {
             self.look_ahead(rt, answers, rest);
-            self.line.extend(&rest[..length])?;
-            self.answer(rt, answers, sink)?;
+            self.answer(rt, answers, sink, &rest[..length])?;
             rest = &rest[length + 1..];
         }
         self.line.extend(rest)?;
@@ -141,28 +140,30 @@ impl Intake {
         }
         // Nothing is to go out with its reply.
         self.most_held = 0;
-        self.answer(rt, answers, sink)?;
+        self.answer(rt, answers, sink, b"")?;
         Ok(self.answered)
     }
 
-    /// Answers the line that is held, and begins the next.
+    /// Answers the line that ends with these bytes, and begins the next.
     fn answer<R, A: Answers<R>, O: Sink>(
         &mut self,
         rt: &R,
         answers: &mut A,
         sink: &mut O,
+        end: &[u8],
     ) -> Result<(), SessionFault>
         requires asks { A.asks }
         requires room { self.old.answered + 1 < 2 ^ 63 }
         ensures answered { (more : List ℕ) × Passes (O.contents sink.old) (O.contents sink.new) self.old more self.new
-            × AnswersNext A.lawful answers.old self.old result more answers.new self.new }
+            × AnswersNext A.lawful answers.old self.old.answered (with_bytes (held_line self.old.line) end.now) result
+            more answers.new self.new }
         ensures failed { O.has_failed sink.new ≡ (O.has_failed sink.old || is_write result) }
         ensures foreign { result ≡ Err Foreign → A.is_shared ≡ true }
         ensures unkept { result ≡ Err Unkept → A.is_shared ≡ true }
         ensures apart { IsApart result self.new }
         ensures most_held { self.new.most_held ≡ self.old.most_held }
     {
-        match self.line.bytes() {
+        match self.line.ended_by(end)? {
             Some(line) => {
                 let mut reply = answers.answer(rt, line)?;
                 match reply.push(b'\n') {

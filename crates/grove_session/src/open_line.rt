@@ -1,4 +1,4 @@
-ghost use Rattle.std.specs.Prelude.{◌≡◌, ◌≤◌, ◌↔◌, [], Some, IsTrue, length, OnOk};
+ghost use Rattle.std.specs.Prelude.{◌≡◌, ◌≤◌, ◌↔◌, [], Some, IsTrue, length, IfOk, OnOk};
 ghost use Rattle.grove_session.specs.declared.answers.TheConstants.{LINE_LIMIT};
 
 use crate::LINE_LIMIT;
@@ -8,7 +8,7 @@ use std::alloc::{AllocError, Global};
 /// connections.
 const MOST_ROOM: usize = 64 * 1024;
 
-/// A line that is being read, as far as it goes. Of one that is too long no byte is kept.
+/// A line that a read cut in two, as far as it goes. Of one that is too long no byte is kept.
 #[derive(Debug, Drop)]
 pub(crate) struct OpenLine {
     bytes: Vec<u8>,
@@ -30,17 +30,6 @@ impl OpenLine {
         }
     }
 
-    /// The bytes so far, unless they are too many.
-    pub(crate) fn bytes(&self) -> Option<&[u8]>
-        ensures { option_map (λ bytes. bytes.now) result ≡ held_line self.now }
-    {
-        if self.is_long {
-            None
-        } else {
-            Some(&self.bytes)
-        }
-    }
-
     pub(crate) fn is_empty(&self) -> bool
         ensures { IsTrue result ↔ (held_line self.now ≡ Some []) }
     {
@@ -57,6 +46,19 @@ impl OpenLine {
             self.bytes.extend_from_slice(bytes)?;
         }
         Ok(())
+    }
+
+    /// The line that ends with these bytes, unless it is too long. Where none is open from before them it is these
+    /// bytes themselves, and nothing is copied.
+    pub(crate) fn ended_by<'a>(&'a mut self, end: &'a [u8]) -> Result<Option<&'a [u8]>, AllocError>
+        ensures ok { IfOk result
+            (λ line. option_map (λ bytes. bytes.now) line ≡ with_bytes (held_line self.old) end.now) }
+    {
+        if self.is_empty() {
+            return Ok((end.len() <= LINE_LIMIT).then_some(end));
+        }
+        self.extend(end)?;
+        Ok((!self.is_long).then_some(&self.bytes))
     }
 
     /// Begins the next line.

@@ -23,7 +23,7 @@ impl Intake {
         requires room { self.old.answered + 1 < 2 ^ 63 }
         requires some { 0 < length (front.now ++ end.now) }
         ensures sent { (more : List ℕ) × Passes (O.contents sink.old) (O.contents sink.new) self.old more self.new
-            × Sends self.old (front.now ++ end.now) result more self.new }
+            × Sends self.old.answered (front.now ++ end.now) result more self.new }
         ensures failed { O.has_failed sink.new ≡ (O.has_failed sink.old || is_write result) }
         ensures apart { IsApart result self.new }
         ensures most_held { self.new.most_held ≡ self.old.most_held }

@@ -1,7 +1,7 @@
 use Rattle.std.proofs.lemmas.Bool.{false≢true}
-use Rattle.std.proofs.Common.{refl, sym, ◌∙◌}
+use Rattle.std.proofs.Common.{sym, ◌∙◌}
 use Rattle.std.proofs.lemmas.Result.{err_from_is_err_and}
-use Rattle.grove_session.proofs.Going.{finishes_for, finishes_with_last, finishes_in_part}
+use Rattle.grove_session.proofs.Going.{finishes_with_last, finishes_in_part}
 use Rattle.grove_session.proofs.Sending.{goes_whole, nothing_held}
 use Rattle.grove_session.proofs.intake.Intake.finish.Goals as goal
 
@@ -15,9 +15,8 @@ returns-in_err-answer-clause-ends g c =
       h.0,
       out.0,
       out.1,
-      finishes_for g.A.Answers.is_shared g.A.Answers.lawful _ _ c.args.self.now _
-          c.answer.new.self _ h.0 refl refl (finishes_in_part g.A.Answers.is_shared g.A.Answers.lawful _ _ _
-          c.answer.new.self h.0 _ (λ nothing. false≢true (sym c.if-is_empty.false ∙ c.is_empty.ensures.1 nothing)) h.2),
+      finishes_in_part g.A.Answers.is_shared g.A.Answers.lawful _ _ c.args.self.now c.answer.new.self h.0 _
+          (λ nothing. false≢true (sym c.if-is_empty.false ∙ c.is_empty.ensures.1 nothing)) h.2,
     )
 
 pub returns-clause-ends : goal.returns-clause-ends
@@ -28,7 +27,6 @@ returns-clause-ends g c =
       h.0,
       out.0,
       out.1,
-      finishes_for g.A.Answers.is_shared g.A.Answers.lawful _ _ c.args.self.now _ c.answer.new.self
-          _ h.0 refl refl (finishes_with_last g.A.Answers.is_shared g.A.Answers.lawful _ _ _ c.answer.new.self h.0
-          (λ nothing. false≢true (sym c.if-is_empty.false ∙ c.is_empty.ensures.1 nothing)) h.2),
+      finishes_with_last g.A.Answers.is_shared g.A.Answers.lawful _ _ c.args.self.now c.answer.new.self h.0
+          (λ nothing. false≢true (sym c.if-is_empty.false ∙ c.is_empty.ensures.1 nothing)) h.2,
     )

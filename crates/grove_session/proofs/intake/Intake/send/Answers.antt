@@ -12,7 +12,7 @@ returns-in_err-send_held-clause-sent g c =
       [],
       goes_from _ _ _ _ _ _ _ _ c.in_err-send_held.ensures.passes
           (c.hold.ensures.unheld c.if-hold.false),
-      sends_nothing c.args.self.now c.send_held.new.self
+      sends_nothing c.args.self.now.answered c.send_held.new.self
           (c.args.front.now ++ c.args.end.now) c.in_err-send_held.field-0.0 c.in_err-send_held.ensures.err.0
           c.requires.some,
     )

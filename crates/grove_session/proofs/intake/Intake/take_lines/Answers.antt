@@ -4,7 +4,7 @@ use Rattle.std.proofs.lemmas.Result.{err_from_is_err_and}
 use Rattle.grove_session.specs.Intakes.{Breaks}
 use Rattle.grove_session.proofs.Lines.{none_feedless, before_feedless, at_feed}
 use Rattle.grove_session.proofs.Going.{continues_nothing, continues_then, continues_as, breaks_then, breaks_early, bytes_go}
-use Rattle.grove_session.proofs.Going.{feed_goes, feed_breaks, rest_goes, no_room_breaks}
+use Rattle.grove_session.proofs.Going.{line_goes, line_breaks, rest_goes, no_room_breaks}
 use Rattle.grove_session.proofs.Sending.{goes_nothing, goes_then}
 use Rattle.grove_session.proofs.intake.Intake.take_lines.Goals as goal
 
@@ -23,22 +23,6 @@ loop-length-init g c = (
   refl,
 )
 
-pub returns-in_err-extend-clause-taken : goal.returns-in_err-extend-clause-taken
-returns-in_err-extend-clause-taken g c =
-    let rest = c.loop-length.rest.now in
-    let (front, more, all, sent, went) = c.loop-length.invariant.0 in
-    let gone = continues_as g.A.Answers.is_shared g.A.Answers.lawful c.args.answers.now c.loop-length.answers
-    c.look_ahead.new.answers c.args.self.now c.loop-length.self front more c.look_ahead.ensures went in
-    let p = err_from_is_err_and c.from_residual.result c.from_residual.ensures.1 in
-    rw (p.1, p.2) (
-      more ++ [],
-      goes_then _ _ _ _ _ _ _ _ _ more [] sent (goes_nothing _ _ _),
-      subst (λ (bytes : List ℕ). Breaks g.A.Answers.is_shared g.A.Answers.lawful c.args.answers.now c.args.self.now
-          bytes (more ++ []) _ c.look_ahead.new.answers) all
-          (breaks_then g.A.Answers.is_shared g.A.Answers.lawful _ _ _ _ c.loop-length.self front rest more [] _ gone
-          (no_room_breaks g.A.Answers.is_shared g.A.Answers.lawful _ c.loop-length.self rest)),
-    )
-
 pub returns-in_err-answer-clause-taken : goal.returns-in_err-answer-clause-taken
 returns-in_err-answer-clause-taken g c =
     let rest = c.loop-length.rest.now in
@@ -47,13 +31,10 @@ returns-in_err-answer-clause-taken g c =
     let gone = continues_as g.A.Answers.is_shared g.A.Answers.lawful c.args.answers.now c.loop-length.answers
     c.look_ahead.new.answers c.args.self.now c.loop-length.self front more c.look_ahead.ensures went in
     let h = c.in_err-answer.ensures.answered in
-    let cut = feed_breaks g.A.Answers.is_shared g.A.Answers.lawful _ _ _ h.0 c.in_err-answer.field-0.0 h.2 in
-    let ended = breaks_then g.A.Answers.is_shared g.A.Answers.lawful _ _ _ c.loop-length.self _ (take n rest)
-    (10 ∷ []) [] h.0 _
-    (bytes_go g.A.Answers.is_shared g.A.Answers.lawful _ c.loop-length.self _ (take n rest)
-    (before_feedless rest n c.in-Some.ensures.0.high c.in-Some.ensures.0.before) c.in_ok-extend.ensures.ok refl) cut in
+    let ended = line_breaks g.A.Answers.is_shared g.A.Answers.lawful _ _ c.loop-length.self (take n rest) h.0 _
+    (before_feedless rest n c.in-Some.ensures.0.high c.in-Some.ensures.0.before) h.2 in
     let here = at_feed rest n c.in-Some.ensures.0.high c.in-Some.ensures.1 in
-    let p = err_from_is_err_and c.from_residual-in_err-answer.result c.from_residual-in_err-answer.ensures.1 in
+    let p = err_from_is_err_and c.from_residual.result c.from_residual.ensures.1 in
     rw (p.1, p.2) (
       more ++ h.0,
       goes_then _ _ _ _ _ _ _ _ _ more h.0 sent h.1,
@@ -76,11 +57,8 @@ loop-length-preserved g c =
     let gone = continues_as g.A.Answers.is_shared g.A.Answers.lawful c.args.answers.now c.loop-length.answers
     c.look_ahead.new.answers c.args.self.now c.loop-length.self front more c.look_ahead.ensures went in
     let h = c.in_ok-answer.ensures.answered in
-    let fed = feed_goes g.A.Answers.is_shared g.A.Answers.lawful _ _ _ _ h.0 h.2 in
-    let ended = continues_then g.A.Answers.is_shared g.A.Answers.lawful _ _ _ c.loop-length.self _ _ (take n rest)
-    (10 ∷ []) [] h.0
-    (bytes_go g.A.Answers.is_shared g.A.Answers.lawful _ c.loop-length.self _ (take n rest)
-    (before_feedless rest n c.in-Some.ensures.0.high c.in-Some.ensures.0.before) c.in_ok-extend.ensures.ok refl) fed in
+    let ended = line_goes g.A.Answers.is_shared g.A.Answers.lawful _ _ c.loop-length.self _ (take n rest) h.0
+    (before_feedless rest n c.in-Some.ensures.0.high c.in-Some.ensures.0.before) h.2 in
     let here = at_feed rest n c.in-Some.ensures.0.high c.in-Some.ensures.1 in (
       (
         front ++ (take n rest ++ 10 ∷ []),
@@ -96,11 +74,11 @@ loop-length-preserved g c =
       c.in_ok-answer.ensures.most_held ∙ c.loop-length.invariant.3,
     )
 
-pub returns-in_err-extend-2-clause-taken : goal.returns-in_err-extend-2-clause-taken
-returns-in_err-extend-2-clause-taken g c =
+pub returns-in_err-extend-clause-taken : goal.returns-in_err-extend-clause-taken
+returns-in_err-extend-clause-taken g c =
     let rest = c.loop-length.rest.now in
     let (front, more, all, sent, gone) = c.loop-length.invariant.0 in
-    let p = err_from_is_err_and c.from_residual-in_err-extend-2.result c.from_residual-in_err-extend-2.ensures.1 in
+    let p = err_from_is_err_and c.from_residual-in_err-extend.result c.from_residual-in_err-extend.ensures.1 in
     rw (p.1, p.2) (
       more ++ [],
       goes_then _ _ _ _ _ _ _ _ _ more [] sent (goes_nothing _ _ _),
@@ -119,5 +97,5 @@ returns-clause-taken g c =
       rest_goes g.A.Answers.is_shared g.A.Answers.lawful _ _ c.args.self.now c.loop-length.self _ front rest
           c.args.bytes.now more all gone
           (bytes_go g.A.Answers.is_shared g.A.Answers.lawful _ c.loop-length.self _ rest
-          (none_feedless rest c.in_default.ensures) c.in_ok-extend-2.ensures.ok refl),
+          (none_feedless rest c.in_default.ensures) c.in_ok-extend.ensures.ok refl),
     )
