@@ -26,6 +26,12 @@ pub apart_from_turns : {T : Type 0} (result : Result T SessionFault) (intake : I
     → result ≡ Err Turns → ⊥
 apart_from_turns {T} result intake h is = subst (λ (r : Result T SessionFault). IsApart r intake) is h
 
+-- what went out is counted with what more goes out
+pub count_on : (before after : ℕ) (out more : List ℕ) → before ≡ length out → after ≡ before + length more → after
+    ≡ length (out ++ more)
+count_on before after out more counted grown = grown ∙ ap (λ (n : ℕ). n + length more) counted
+    ∙ sym (length-append out more)
+
 module _ {S : Type 0} (shared : Bool) (lawful : Lawful S)
     (source_first source_now source_new sink_first sink_now sink_new : Option (List ℕ)) where
   -- how the session stands: input and output, and the answers
@@ -38,12 +44,6 @@ module _ {S : Type 0} (shared : Bool) (lawful : Lawful S)
   Ended first result new = (input : List ℕ) × (out : List ℕ)
       × Consumes source_first source_new input × Appends sink_first sink_new out
       × SessionEnds shared lawful first result source_new input out new
-
-  -- what went out is counted with what more goes out
-  count_on : (before after : ℕ) (out more : List ℕ) → before ≡ length out → after ≡ before + length more → after
-      ≡ length (out ++ more)
-  count_on before after out more counted grown = grown ∙ ap (λ (n : ℕ). n + length more) counted
-      ∙ sym (length-append out more)
 
   -- nothing more is read, and what is held is finished
   pub ended_at_end : (first now new : S) (intake after : Intake) (bytes more : List ℕ)

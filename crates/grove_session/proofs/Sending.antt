@@ -1,7 +1,7 @@
 -- Replies that are held back: what went out of them, and what a session says once the rest goes out or doesn't.
 use Rattle.std.proofs.Common.{◌≡◌, ℕ, suc, ◌+◌, ◌<◌, ◌≤◌, Bool, true, false, List, [], ◌∷◌, ◌++◌, Some, length, take}
 use Rattle.std.proofs.Common.{drop, Option, Result, Ok, Err, refl, sym, ap, subst, ◌∙◌, append_assoc, append-nil}
-use Rattle.std.proofs.Common.{take-append-drop, arith, length-append}
+use Rattle.std.proofs.Common.{take-append-drop, arith, length-append, inl, inr}
 use Rattle.std.specs.Prelude.{slice_get}
 use Rattle.std.specs.Io.KnownBytes.{Appends}
 use Rattle.std.proofs.KnownBytes.{Appends-nil, Appends-trans}
@@ -13,7 +13,7 @@ use Rattle.grove_session.specs.declared.session_fault.SessionFault.{SessionFault
 use Rattle.grove_session.specs.declared.session_fault.SessionFault.TheVariants.{Read, Write, Memory, Turns, Foreign, Unkept}
 use Rattle.grove_session.specs.Sessions.{Lawful, whole_lines, IsReplied, IsAnswered, StopsWithin, is_write}
 use Rattle.grove_session.specs.Intakes.{held_line, GoesOut, Sends, SendsInPart, IsUnderWay, EndsAmong, Continues}
-use Rattle.grove_session.specs.Intakes.{Breaks, TakesBytes}
+use Rattle.grove_session.specs.Intakes.{Breaks, TakesBytes, Passes, Settles}
 use Rattle.grove_session.proofs.Answering.{within_among}
 
 -- ---- what went out and what is held
@@ -268,7 +268,7 @@ module _ {S : Type 0} (shared : Bool) (lawful : Lawful S) where
       broken
 
   -- bytes were taken so, and what was held went out, unless a write was cut
-  pub takes_out : (old new : S) (before between after : Intake) (bytes more out : List ℕ)
+  takes_out : (old new : S) (before between after : Intake) (bytes more out : List ℕ)
       (taken : Result (Unit {0}) SessionFault)
       → TakesBytes shared lawful old before bytes taken more new between → more ≡ out ++ after.held.items
       → (is_write taken ≡ false → after.held.items ≡ [])
@@ -296,7 +296,7 @@ module _ {S : Type 0} (shared : Bool) (lawful : Lawful S) where
         (behind_text text more out rest is) some alone;
   }
 
-  pub takes_cut : (old new : S) (before between : Intake) (bytes more out rest : List ℕ)
+  takes_cut : (old new : S) (before between : Intake) (bytes more out rest : List ℕ)
       (taken : Result (Unit {0}) SessionFault) (fault : SessionFault)
       → TakesBytes shared lawful old before bytes taken more new between → more ≡ out ++ rest
       → (is_write {T = Unit {0}} (Err fault) ≡ true) × (0 < length rest)
@@ -310,3 +310,41 @@ module _ {S : Type 0} (shared : Bool) (lawful : Lawful S) where
       absurd (false≢true cut)
   takes_cut old new before between bytes more out rest taken Unkept takes is (cut, some) alone =
       absurd (false≢true cut)
+
+  -- what was said of the bytes that were taken is said of them once what was held is settled
+  takes_settled : (old new : S) (before between after : Intake) (bytes more out : List ℕ)
+      (taken result : Result (Unit {0}) SessionFault)
+      → TakesBytes shared lawful old before bytes taken more new between → more ≡ out ++ after.held.items
+      → Settles taken after.held.items result
+      → (shared ≡ false → after.held.items ≡ []) → after.line ≡ between.line → after.answered ≡ between.answered
+      → TakesBytes shared lawful old before bytes result out new after
+  takes_settled old new before between after bytes more out taken result takes is (inl (same, none)) alone line
+      answered =
+      subst (λ (it : Result (Unit {0}) SessionFault). TakesBytes shared lawful old before bytes it out new after) same
+      (takes_out old new before between after bytes more out taken takes is none alone line answered)
+  takes_settled old new before between after bytes more out taken (Err fault) takes is (inr cut) alone line answered =
+      takes_cut old new before between bytes more out after.held.items taken fault takes is cut alone
+  takes_settled old new before between after bytes more out taken (Ok done) takes is (inr (cut, some)) alone line
+      answered =
+      absurd (false≢true cut)
+
+  -- what went out of it all, where nothing was held before the bytes
+  pub settled : (a b c : Option (List ℕ)) (old new : S) (before between after : Intake) (bytes more : List ℕ)
+      (taken result : Result (Unit {0}) SessionFault)
+      → Passes a b before more between → TakesBytes shared lawful old before bytes taken more new between
+      → Passes b c between [] after → Settles taken after.held.items result
+      → (after.line ≡ between.line) × (after.answered ≡ between.answered) × (after.most_held ≡ between.most_held)
+      → between.most_held ≡ before.most_held → before.held.items ≡ [] → (shared ≡ false → before.most_held ≡ 0)
+      → (out : List ℕ) × Appends a c out × (after.written ≡ before.written + length out)
+      × TakesBytes shared lawful old before bytes result out new after
+  settled a b c old new before between after bytes more taken result one takes two settles (line, answered, most) same
+      none alone =
+      let both = goes_then a b c _ _ _ _ _ _ more [] one two in
+      let is = sym (append-nil more) ∙ goes_all a c _ _ _ _ _ both none in (
+        both.sent,
+        both.went,
+        both.counted,
+        takes_settled old new before between after bytes more both.sent taken result takes is settles
+            (λ by_itself. nothing_held after.held.items after.most_held after.few_held (most ∙ same ∙ alone by_itself))
+            line answered,
+      )

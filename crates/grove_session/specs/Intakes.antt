@@ -1,6 +1,6 @@
 -- For the proofs alone: what a session has between two reads, and how bytes that are read take it on.
 use Rattle.std.specs.Prelude.{◌≡◌, ℕ, ◌+◌, ◌<◌, Bool, List, [], ◌∷◌, ◌++◌, Option, None, Some, Result, Ok, Err}
-use Rattle.std.specs.Prelude.{true, false, length, take, slice_get, nat_lt, if◌then◌else◌, OnOk}
+use Rattle.std.specs.Prelude.{true, false, length, take, slice_get, nat_lt, if◌then◌else◌, ◌⊎◌}
 use Rattle.std.specs.Io.KnownBytes.{Appends, IsAtEnd}
 use Rattle.grove_session.specs.declared.open_line.OpenLine.{OpenLine}
 use Rattle.grove_session.specs.declared.intake.Intake.{Intake}
@@ -8,7 +8,7 @@ use Rattle.grove_session.specs.declared.session_fault.SessionFault.{SessionFault
 use Rattle.grove_session.specs.declared.session_fault.SessionFault.TheVariants.{Read, Write, Memory, Turns, Foreign}
 use Rattle.grove_session.specs.declared.session_fault.SessionFault.TheVariants.{Unkept}
 use Rattle.grove_session.specs.Sessions.{Lawful, whole_lines, rest_of, long_line_text, IsAnswered, StopsBefore}
-use Rattle.grove_session.specs.Sessions.{StopsWithin, SessionEnds}
+use Rattle.grove_session.specs.Sessions.{StopsWithin, SessionEnds, is_write}
 
 -- a line, unless it is too long
 abbrev pub clip : List ℕ → Option (List ℕ)
@@ -38,18 +38,10 @@ IsApart (Err Unkept) after = Unit {0}
 IsApart (Err Read) after = ⊥
 IsApart (Err Turns) after = ⊥
 
--- and what is answered alone is neither lost among others' lines nor unkept
-abbrev pub IsOwn : {T : Type 0} → Bool → Result T SessionFault → Intake → Type 0
-IsOwn shared result after = IsApart result after × (result ≡ Err Foreign → shared ≡ true)
-    × (result ≡ Err Unkept → shared ≡ true)
-
--- no reply is held, and unless answers are shared none ever is
-abbrev pub HoldsNone : Bool → Intake → Type 0
-HoldsNone shared intake = (intake.held.items ≡ []) × (shared ≡ false → intake.most_held ≡ 0)
-
--- unless there is a fault, what was held went out; as much as before may be held
-abbrev pub SendsHeld : {T : Type 0} → Intake → Result T SessionFault → Intake → Type 0
-SendsHeld before result after = OnOk result (after.held.items ≡ []) × (after.most_held ≡ before.most_held)
+-- what was held goes out, unless the sink had failed, and what came before is the result; or the sink fails at it
+abbrev pub Settles : Result (Unit {0}) SessionFault → List ℕ → Result (Unit {0}) SessionFault → Type 0
+Settles taken held result = ((taken ≡ result) × (is_write taken ≡ false → held ≡ []))
+    ⊎ ((is_write result ≡ true) × (0 < length held))
 
 -- a failed write tells how much of a text went out
 abbrev pub Tells : SessionFault → List ℕ → Type 0

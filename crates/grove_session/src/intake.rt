@@ -30,7 +30,7 @@ pub(crate) struct Intake {
 }
 
 impl Intake {
-    ghost use Rattle.grove_session.specs.Intakes.{held_line, HoldsNone, IsApart, IsOwn, Passes, SendsHeld};
+    ghost use Rattle.grove_session.specs.Intakes.{held_line, IsApart, Passes, Settles};
     ghost use Rattle.grove_session.specs.Intakes.{with_bytes, AnswersNext, TakesBytes, Finishes};
 
     /// A session that has read nothing. It holds up to so many bytes of replies back, to send them together.
@@ -50,36 +50,9 @@ impl Intake {
         }
     }
 
-    /// Answers all that is in the bytes: each line that ends in them, and the rest is kept. What was held back of the
-    /// replies goes out at the end, also where there is a fault that isn't the sink's.
-    pub(crate) fn take<R, A: Answers<R>, O: Sink>(
-        &mut self,
-        rt: &R,
-        answers: &mut A,
-        sink: &mut O,
-        bytes: &[u8],
-    ) -> Result<(), SessionFault>
-        requires asks { A.asks }
-        requires room { self.old.answered + length bytes.now < 2 ^ 63 }
-        requires fresh { HoldsNone A.is_shared self.old }
-        ensures taken { (more : List ℕ) × Appends (O.contents sink.old) (O.contents sink.new) more
-            × (self.new.written ≡ self.old.written + length more)
-            × TakesBytes A.is_shared A.lawful answers.old self.old bytes.now result more answers.new self.new }
-        ensures few { OnOk result (self.new.answered ≤ self.old.answered + length bytes.now) }
-        ensures failed { O.has_failed sink.new ≡ (O.has_failed sink.old || is_write result) }
-        ensures fault { IsOwn A.is_shared result self.new }
-        ensures held { SendsHeld self.old result self.new }
-    {
-        let taken = self.take_lines(rt, answers, sink, bytes);
-        if !is_cut(&taken) {
-            self.send_held(sink)?;
-        }
-        taken
-    }
-
     /// Answers each line that ends in the bytes. Its reply went out, or is held. Lines may be begun before their turn
     /// once none is open from before these bytes.
-    fn take_lines<R, A: Answers<R>, O: Sink>(
+    pub(crate) fn take_lines<R, A: Answers<R>, O: Sink>(
         &mut self,
         rt: &R,
         answers: &mut A,
@@ -105,6 +78,28 @@ impl Intake {
         }
         self.line.extend(rest)?;
         Ok(())
+    }
+
+    /// Sends the replies that are held once bytes were taken so, also before a fault that isn't the sink's. Gives that
+    /// fault, or the sink's if it fails now.
+    pub(crate) fn settle<O: Sink>(
+        &mut self,
+        sink: &mut O,
+        taken: Result<(), SessionFault>,
+    ) -> Result<(), SessionFault>
+        requires failed { O.has_failed sink.old ≡ is_write taken }
+        requires apart { IsApart taken self.old }
+        ensures passes { Passes (O.contents sink.old) (O.contents sink.new) self.old [] self.new }
+        ensures settles { Settles taken self.new.held.items result }
+        ensures failed { O.has_failed sink.new ≡ is_write result }
+        ensures apart { IsApart result self.new }
+        ensures kept { (self.new.line ≡ self.old.line) × (self.new.answered ≡ self.old.answered)
+            × (self.new.most_held ≡ self.old.most_held) }
+    {
+        if !is_cut(&taken) {
+            self.send_held(sink)?;
+        }
+        taken
     }
 
     /// Lets the lines of these bytes be begun, unless a line is open from before them.

@@ -71,7 +71,8 @@ fn answer_lines<R: AllocGlobal, A: Answers<R>, I: Source, O: Sink>(
         if count == 0 {
             return intake.finish(rt, answers, sink);
         }
-        intake.take(rt, answers, sink, &buffer[..count])?;
+        let taken = intake.take_lines(rt, answers, sink, &buffer[..count]);
+        intake.settle(sink, taken)?;
     }
     Err(SessionFault::Turns)
 }
