@@ -3,6 +3,9 @@ use Rattle.std.proofs.Common.{◌≡◌, ℕ, zero, suc, ◌+◌, ◌*◌, ◌-�
 use Rattle.std.proofs.Common.{None, option_map, option_and_then, refl, ap, sym, ◌∙◌, arith, Bool}
 use Rattle.std.proofs.lemmas.Option.{same_Some}
 use Rattle.json.specs.Token.{Token}
+use Rattle.json.specs.Reads.{token_of}
+use Rattle.json.specs.declared.token.Token.{Token as Taken}
+use Rattle.json.specs.declared.token.Token.TheVariants as taken
 use Rattle.json.specs.Json as json
 use Rattle.json.specs.Json.{parse_map, after_end_array, read_key}
 use Rattle.json.proofs.Grammar.{left, items_more, items_fail, items_end, members_more, members_fail, members_no_key}
@@ -12,6 +15,8 @@ use Rattle.serde_json.specs.Data.{Num, Data, null, boolean, number, string, arra
 use Rattle.serde_json.specs.Data.{Members, no_members, put}
 use Rattle.serde_json.specs.Read.{number_of, of_json, of_items, of_members, converted}
 use Rattle.serde_json.specs.Find.{as_array, as_object}
+use Rattle.grove_wire.specs.FlatValues.{flat}
+use Rattle.grove_wire.specs.declared.scalars.Scalar as scalar
 use Rattle.grove_wire.specs.Forms.{list_items, as_list}
 use Rattle.grove_line.specs.declared.values.Opened.{Opened}
 use Rattle.grove_line.specs.declared.values.Opened.TheVariants.{Array, Object, Scalar}
@@ -65,6 +70,9 @@ module _ (depth : ℕ) (r : List Token) where
 pub nothing_starts : (depth : ℕ) (ts : List Token) → json.value depth ts ≡ None → value_at depth ts ≡ None
 unfolding value_at
 nothing_starts depth ts none = ap (converted of_json) none
+
+pub nothing_left : (depth : ℕ) (ts : List Token) → ts ≡ [] → value_at depth ts ≡ None
+nothing_left depth ts none = nothing_starts depth ts (ap (json.value depth) none ∙ value_is depth [])
 
 -- ---- arrays
 
@@ -165,6 +173,19 @@ items_begin depth start = record {
   enough = omega arith;
   is = itself (items_at depth (length start) start);
 }
+
+-- what is no end of an array takes none
+pub goes_on : (t : Taken) (rest : List Token) → (t ≡ taken.EndArray → ⊥) → after_end_array (token_of t ∷ rest) ≡ None
+goes_on taken.BeginObject rest other = refl
+goes_on taken.EndObject rest other = refl
+goes_on taken.BeginArray rest other = refl
+goes_on taken.EndArray rest other = absurd (other refl)
+goes_on (taken.Key s) rest other = refl
+goes_on (taken.String s) rest other = refl
+goes_on (taken.Number s) rest other = refl
+goes_on (taken.Bool b) rest other = refl
+goes_on taken.Null rest other = refl
+goes_on taken.Bad rest other = refl
 
 module _ {depth : ℕ} {start ts : List Token} {front : List Data} (so_far : ItemsSoFar depth start ts front) where
   pub items_over : {r : List Token} → after_end_array ts ≡ Some r → AreItems depth start r front
@@ -350,12 +371,18 @@ module _ {inside depth : ℕ} {start ts rest : List Token} {Holds : Data → Typ
       → Holds (object ms) → Starts depth start rest Holds
   object_of_members opens ms are holds = record { whole = object ms; is = object_passed opens are; holds = holds }
 
--- what doesn't begin as an array, or as an object, is none
+-- what doesn't begin as an array, as a number or a text, or as an object, is none
 pub not_array : (opened : Opened) → ((inside : ℕ) → opened ≡ Array inside → ⊥) → (d : Data) → IsOpenedBy opened d
     → as_array d ≡ None
 not_array (Array inside) none d is = absurd (none inside refl)
 not_array (Object inside) none d is = is.0
 not_array (Scalar s) none d is = is.0
+
+pub not_scalar : (opened : Opened) → ((s : scalar.Scalar) → opened ≡ Scalar s → ⊥) → (d : Data) → IsOpenedBy opened d
+    → null ≡ flat d
+not_scalar (Array inside) none d is = sym is.1
+not_scalar (Object inside) none d is = sym is.1
+not_scalar (Scalar s) none d is = absurd (none s refl)
 
 pub not_object : (opened : Opened) → ((inside : ℕ) → opened ≡ Object inside → ⊥) → (d : Data) → IsOpenedBy opened d
     → as_object d ≡ None

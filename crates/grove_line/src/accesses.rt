@@ -1,5 +1,5 @@
 //! The accesses of a list, as they are read one after the other.
-ghost use Rattle.std.specs.Prelude.{◌≡◌, ◌≢◌, ◌∷◌, [], ◌++◌, List, Err, OnOk, IfOk};
+ghost use Rattle.std.specs.Prelude.{◌≡◌, ◌∷◌, [], ◌++◌, List, OnOk};
 ghost use Rattle.serde_json.specs.Data.{Data};
 ghost use Rattle.grove_tree.specs.Trees.{Rows};
 ghost use Rattle.grove_wire.specs.declared.place.Place.{Place as SpecPlace};
@@ -12,8 +12,7 @@ ghost use Rattle.grove_line.specs.ArrayItems.{with_next};
 ghost use Rattle.grove_line.specs.ListReading.{IsReading, first_of, second_of, read_in};
 
 use crate::list_read::ListRead;
-use crate::unread::Unread;
-use grove_access::{Access, AccessList, ListFault, MOST_ACCESSES};
+use grove_access::{Access, AccessList, MOST_ACCESSES};
 use grove_tree::Tree;
 use grove_wire::{AccessForm, Few, Place, WireFault};
 use std::alloc::{AllocFailed, Global};
@@ -88,39 +87,30 @@ impl Accesses {
     }
 
     /// The list that these are, over the tree, where it stands at the place.
-    pub(crate) fn into_list(
-        self,
-        alloc: Global,
-        tree: &Tree,
-        place: Place,
-    ) -> Result<ListRead, Unread>
+    pub(crate) fn into_list(self, tree: &Tree, place: Place) -> ListRead
         requires { (ds : List Data) × IsReading tree.now place ds self }
-        ensures list { IfOk result (λ read. (ds : List Data) (v : SpecVersion) → IsReading tree.now place ds self
-            → read_in v read ≡ few_on 64 (access_at tree.now v) place ds) }
-        ensures memory { result ≢ Err Unread.BadJson }
+        ensures { (ds : List Data) (v : SpecVersion) → IsReading tree.now place ds self
+            → read_in v result ≡ few_on 64 (access_at tree.now v) place ds }
     {
         if self.count > MOST_ACCESSES {
-            return Ok(ListRead {
+            return ListRead {
                 list: Err(WireFault::Limit(place)),
                 told: None,
-            });
+            };
         }
         let told = self.told;
         if let Some(fault) = self.fault {
-            return Ok(ListRead {
+            return ListRead {
                 list: Err(fault),
                 told,
-            });
+            };
         }
-        match AccessList::new(alloc, tree, &self.all) {
-            Ok(list) => Ok(ListRead {
-                list: Ok(list),
-                told,
-            }),
-            Err(ListFault::Memory) => Err(Unread::Memory),
-            Err(ListFault::TooLong | ListFault::NoNode(_) | ListFault::BadLength(_)) => {
-                unreachable!()
-            }
+        let Ok(list) = AccessList::of(tree, self.all) else {
+            unreachable!()
+        };
+        ListRead {
+            list: Ok(list),
+            told,
         }
     }
 }

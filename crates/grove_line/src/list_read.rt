@@ -75,5 +75,5 @@ fn read_inside(
         let items = few(reader, depth)?;
         accesses.add(tree, place, items)?;
     }
-    accesses.into_list(alloc, tree, place)
+    Ok(accesses.into_list(tree, place))
 }

@@ -1,22 +1,39 @@
 //! Numbers and texts that come next, by themselves or as the few items of an array.
-ghost use Rattle.std.specs.Prelude.{◌≡◌, ◌<◌, List, length, None, Err, IfOk, IfSome};
+ghost use Rattle.std.specs.Prelude.{◌≡◌, ◌<◌, ◌∷◌, List, length, None, Err, IfOk, IfSome};
+ghost use Rattle.json.specs.Reads.{token_of};
 ghost use Rattle.json.specs.Token.{Token as SpecToken};
 ghost use Rattle.serde_json.specs.Data.{Data};
 ghost use Rattle.grove_wire.specs.FlatValues.{seen, flat, few_seen, few_of, flat_few};
 ghost use Rattle.grove_line.specs.TokenValues.{value_at, items_at, AreItems, ItemsSoFar, Starts, IsNext};
 
 use crate::unread::Unread;
-use crate::values::{Opened, open, pass_opened};
+use crate::values::{Opened, next_token, open, opened_by, pass_opened};
 use grove_wire::{Few, Scalar};
-use json::Reader;
+use json::{Reader, Token};
 
 /// The number, the text or the other value that comes next.
 #[inline(always)]
+#[tactic(auto, using(crate::proofs::TokenValues::nothing_left))]
 pub(crate) fn scalar<'a>(reader: &mut Reader<'a>, depth: usize) -> Result<Scalar<'a>, Unread>
     ensures read { IfOk result (λ s. Starts depth reader.old reader.new (λ d. seen s ≡ flat d)) }
     ensures unread { result ≡ Err Unread.BadJson → value_at depth reader.old ≡ None }
 {
-    let opened = open(reader, depth)?;
+    let token = next_token(reader)?;
+    scalar_on(token, reader, depth)
+}
+
+/// The same of a value whose first token is this one.
+#[inline(always)]
+fn scalar_on<'a>(
+    token: Token<'a>,
+    reader: &mut Reader<'a>,
+    depth: usize,
+) -> Result<Scalar<'a>, Unread>
+    ensures read { IfOk result
+        (λ s. Starts depth (token_of token.entry ∷ reader.old) reader.new (λ d. seen s ≡ flat d)) }
+    ensures unread { result ≡ Err Unread.BadJson → value_at depth (token_of token.entry ∷ reader.old) ≡ None }
+{
+    let opened = opened_by(token, depth)?;
     if let Opened::Scalar(scalar) = opened {
         return Ok(scalar);
     }
@@ -33,10 +50,11 @@ fn next_scalar<'a>(reader: &mut Reader<'a>, depth: usize) -> Result<Option<Scala
     ensures unread { result ≡ Err Unread.BadJson → (start : List SpecToken) (front : List Data)
         → ItemsSoFar depth start reader.old front → items_at depth (length start) start ≡ None }
 {
-    if reader.take_end_array() {
+    let token = next_token(reader)?;
+    if let Token::EndArray = token {
         return Ok(None);
     }
-    let item = scalar(reader, depth)?;
+    let item = scalar_on(token, reader, depth)?;
     Ok(Some(item))
 }
 

@@ -1,5 +1,6 @@
 //! Values that a text begins with, token by token.
-ghost use Rattle.std.specs.Prelude.{◌≡◌, ℕ, List, length, None, Some, Err, IfOk, OnOk};
+ghost use Rattle.std.specs.Prelude.{◌≡◌, [], ◌∷◌, ℕ, List, length, None, Some, Err, IfOk, OnOk};
+ghost use Rattle.json.specs.Reads.{token_of};
 ghost use Rattle.json.specs.Token.{Token as SpecToken};
 ghost use Rattle.serde_json.specs.Data.{Num, number, Items, Members, no_members};
 ghost use Rattle.serde_json.specs.Read.{number_of};
@@ -23,11 +24,31 @@ pub(crate) enum Opened<'a> {
 
 /// Opens the value that comes next, where arrays and objects may nest so deep.
 #[inline(always)]
+#[tactic(auto, using(crate::proofs::TokenValues::nothing_left))]
 pub(crate) fn open<'a>(reader: &mut Reader<'a>, depth: usize) -> Result<Opened<'a>, Unread>
     ensures opened { IfOk result (λ opened. Opens opened depth reader.old reader.new) }
     ensures unread { result ≡ Err Unread.BadJson → value_at depth reader.old ≡ None }
 {
-    let token = reader.next().ok_or(Unread::BadJson)?;
+    let token = next_token(reader)?;
+    opened_by(token, depth)
+}
+
+/// The token that comes next.
+#[inline(always)]
+pub(crate) fn next_token<'a>(reader: &mut Reader<'a>) -> Result<Token<'a>, Unread>
+    ensures token { IfOk result (λ token. reader.old ≡ token_of token ∷ reader.new) }
+    ensures over { result ≡ Err Unread.BadJson → reader.old ≡ [] }
+{
+    reader.next().ok_or(Unread::BadJson)
+}
+
+/// What a value begins with whose first token this is.
+#[inline(always)]
+pub(crate) fn opened_by(token: Token<'_>, depth: usize) -> Result<Opened<'_>, Unread>
+    ensures opened { IfOk result (λ opened. (ts : List SpecToken) → Opens opened depth (token_of token.entry ∷ ts) ts) }
+    ensures unread { result ≡ Err Unread.BadJson → (ts : List SpecToken)
+        → value_at depth (token_of token.entry ∷ ts) ≡ None }
+{
     match token {
         Token::Null | Token::Bool(_) => Ok(Opened::Scalar(Scalar::Other)),
         Token::Number(text) => Ok(Opened::Scalar(number(text)?)),

@@ -64,6 +64,7 @@ pub struct AccessForm<'v> {
 
 impl<'v> AccessForm<'v> {
     /// What stands in the items of an access of either version.
+    #[inline(always)]
     pub fn of(items: Few<'v>) -> Option<AccessForm<'v>>
         ensures { option_map form_seen result ≡ option_and_then form_of (few_seen items.entry) }
     {
@@ -108,6 +109,7 @@ impl<'v> AccessForm<'v> {
 }
 
 /// What stands in an access of three items: after `get` the third is a length, else a number.
+#[inline(always)]
 fn third_form<'v>(word: Scalar<'_>, path: Scalar<'v>, third: Scalar<'_>) -> Option<AccessForm<'v>>
     ensures { option_map form_seen result
         ≡ form_of (seen word.entry ∷ seen path.entry ∷ seen third.entry ∷ []) }

@@ -1,5 +1,4 @@
 use Rattle.std.proofs.Common.{◌++◌, ◌∷◌, [], arith}
-use Rattle.std.proofs.lemmas.Result.{IfOk-weaker}
 use Rattle.grove_line.proofs.TokenValues.{items_begin, items_turn, items_stop, items_over, starts_shorter}
 use Rattle.grove_line.proofs.list_read.read_inside.Goals as goal
 
@@ -29,10 +28,8 @@ accesses-preserved c =
 
 pub returns-clause-read : goal.returns-clause-read
 returns-clause-read c =
-    let so_far = c.accesses.invariant in
-    IfOk-weaker c.into_list.result _ _ (λ read is.
-    (so_far.front, items_over so_far.items (grind arith), λ version. is so_far.front version so_far.reading))
-    c.into_list.ensures.list
-
-pub returns-clause-unread : goal.returns-clause-unread
-returns-clause-unread c refused = absurd (c.into_list.ensures.memory refused)
+    let so_far = c.accesses.invariant in (
+      so_far.front,
+      items_over so_far.items (grind arith),
+      λ version. c.into_list.ensures so_far.front version so_far.reading,
+    )

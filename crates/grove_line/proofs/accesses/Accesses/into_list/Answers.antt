@@ -1,4 +1,4 @@
-use Rattle.std.proofs.Common.{◌≡◌, Option, None, Some, Ok, rules, refl}
+use Rattle.std.proofs.Common.{◌≡◌, Option, None, Some, Ok, refl}
 use Rattle.grove_wire.specs.declared.fault.WireFault.{WireFault}
 use Rattle.grove_wire.specs.declared.versions.Version.TheVariants.{Second}
 use Rattle.grove_wire.specs.Outcomes.{few_on}
@@ -20,4 +20,4 @@ unreachable-requires c =
     tally_few (rw (no_fault c.args.self.fault c.in_default.not-Some) at c.requires.1.second)
     c.if-self-gt-MOST_ACCESSES.false in
     let listed = accesses_fit tree Second place ds _ told in
-    c.in-Err-TooLong.ensures.refused (λ e. search rules) (rw c.deref.ensures.value listed)
+    c.in_default-of.ensures.refused listed
