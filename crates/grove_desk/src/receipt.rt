@@ -60,6 +60,27 @@ impl Receipt {
         })
     }
 
+    /// What a later receipt is compared with, without the line, and the reply.
+    pub(crate) fn into_seen(self, alloc: Global) -> (Receipt, Vec<u8>)
+        ensures seen { (result.0.number ≡ self.number) × (result.0.rounds ≡ self.rounds) }
+        ensures reply { result.1.items ≡ self.reply }
+    {
+        let Receipt {
+            number,
+            reply,
+            rounds,
+            ..
+        } = self;
+        let seen = Receipt {
+            number,
+            line: Vec::new(alloc),
+            reply: Vec::new(alloc),
+            refusal: None,
+            rounds,
+        };
+        (seen, reply)
+    }
+
     /// Is it the receipt of this line?
     pub(crate) fn is_of(&self, line: &[u8]) -> bool
         ensures { IsTrue result ↔ (self.now.line ≡ line.now) }

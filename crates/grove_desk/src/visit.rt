@@ -113,27 +113,13 @@ impl<
             self.watch,
         );
         match answered {
-            Ok(
-                Receipt {
-                    number,
-                    reply,
-                    refusal,
-                    rounds,
-                    ..
-                },
-            ) => {
-                self.told = match refusal {
+            Ok(receipt) => {
+                self.told = match receipt.refusal() {
                     Some(refusal) => Told::Refused(refusal),
                     None => Told::Accepted,
                 };
-                // The next receipt is to come after this one; its line and reply aren't kept for that.
-                self.seen = Some(Receipt {
-                    number,
-                    line: Vec::new(alloc),
-                    reply: Vec::new(alloc),
-                    refusal: None,
-                    rounds,
-                });
+                let (seen, reply) = receipt.into_seen(alloc);
+                self.seen = Some(seen);
                 Ok(reply)
             }
             Err(fault) => {
