@@ -1,3 +1,4 @@
+use crate::ending::Ending;
 use crate::event::Event;
 use crate::fields::Fields;
 use grove_gauge::Minute;
@@ -39,25 +40,12 @@ fn write_data<W: fmt::Write>(fields: &mut Fields<'_, W>, event: &Event<'_>) -> f
             line,
             name,
             hint,
-        } => {
-            fields.number("connection", *connection)?;
-            fields.number("line", *line)?;
-            fields.text("error", name)?;
-            fields.optional_text("hint", *hint)
-        }
+        } => write_refusal(fields, *connection, *line, name, *hint),
         Event::Ended {
             connection,
             lines,
             ending,
-        } => {
-            fields.number("connection", *connection)?;
-            fields.number("lines", *lines)?;
-            fields.text("why", ending.name())?;
-            fields.optional_number(
-                "idle_seconds",
-                ending.idle().map(|seconds| u64::from(seconds)),
-            )
-        }
+        } => write_ending(fields, *connection, *lines, *ending),
         Event::TurnedAway { connection } | Event::NoThread { connection } => {
             fields.number("connection", *connection)
         }
@@ -73,6 +61,34 @@ fn write_data<W: fmt::Write>(fields: &mut Fields<'_, W>, event: &Event<'_>) -> f
         } => write_minute(fields, minute, *connections, *waits),
         Event::LeftOut { events } => fields.number("events", *events),
     }
+}
+
+fn write_refusal<W: fmt::Write>(
+    fields: &mut Fields<'_, W>,
+    connection: u64,
+    line: u64,
+    name: &str,
+    hint: Option<&str>,
+) -> fmt::Result {
+    fields.number("connection", connection)?;
+    fields.number("line", line)?;
+    fields.text("error", name)?;
+    fields.optional_text("hint", hint)
+}
+
+fn write_ending<W: fmt::Write>(
+    fields: &mut Fields<'_, W>,
+    connection: u64,
+    lines: u64,
+    ending: Ending,
+) -> fmt::Result {
+    fields.number("connection", connection)?;
+    fields.number("lines", lines)?;
+    fields.text("why", ending.name())?;
+    fields.optional_number(
+        "idle_seconds",
+        ending.idle().map(|seconds| u64::from(seconds)),
+    )
 }
 
 fn write_minute<W: fmt::Write>(
