@@ -43,6 +43,7 @@ impl Accesses {
     }
 
     /// Reads one more item of the list that stands at the place.
+    #[inline(always)]
     pub(crate) fn add(
         &mut self,
         tree: &Tree,

@@ -59,6 +59,7 @@ pub(crate) fn read_list(
 }
 
 /// The same of an array that has been opened.
+#[inline(always)]
 fn read_inside(
     alloc: Global,
     tree: &Tree,

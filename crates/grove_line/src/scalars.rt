@@ -59,6 +59,7 @@ fn next_scalar<'a>(reader: &mut Reader<'a>, depth: usize) -> Result<Option<Scala
 }
 
 /// The items of an array of two to four that comes next, or any other value.
+#[inline(always)]
 pub(crate) fn few<'a>(reader: &mut Reader<'a>, depth: usize) -> Result<Few<'a>, Unread>
     ensures read { IfOk result (λ few. Starts depth reader.old reader.new (λ d. few_seen few ≡ few_of d)) }
     ensures unread { result ≡ Err Unread.BadJson → value_at depth reader.old ≡ None }
@@ -72,6 +73,7 @@ pub(crate) fn few<'a>(reader: &mut Reader<'a>, depth: usize) -> Result<Few<'a>, 
 }
 
 /// The items of an array and its end, if they are two to four.
+#[inline(always)]
 fn few_items<'a>(reader: &mut Reader<'a>, depth: usize) -> Result<Few<'a>, Unread>
     ensures read { IfOk result (λ few. (ds : List Data) × AreItems depth reader.old reader.new ds
         × (few_seen few ≡ flat_few ds)) }

@@ -114,10 +114,9 @@ fn third_form<'v>(word: Scalar<'_>, path: Scalar<'v>, third: Scalar<'_>) -> Opti
     ensures { option_map form_seen result
         ≡ form_of (seen word.entry ∷ seen path.entry ∷ seen third.entry ∷ []) }
 {
-    if word.is("get") {
-        with_length(path, Some(Op::Get), third)
-    } else {
-        form_with(path, numbered_op(word, third), None)
+    match get_of(word) {
+        Some(op) => with_length(path, Some(op), third),
+        None => form_with(path, numbered_op(word, third), None),
     }
 }
 
@@ -142,7 +141,10 @@ fn form_with(path: Scalar<'_>, op: Option<Op>, length: Option<u64>) -> Option<Ac
 fn get_of(word: Scalar<'_>) -> Option<Op>
     ensures { result ≡ (if is_word (codes "get") (seen word.entry) then Some Op.Get else None) }
 {
-    if word.is("get") { Some(Op::Get) } else { None }
+    match word.as_str()?.as_bytes() {
+        b"get" => Some(Op::Get),
+        _ => None,
+    }
 }
 
 /// The operation that a word names with a number.
@@ -153,18 +155,16 @@ fn numbered_op(word: Scalar<'_>, number: Scalar<'_>) -> Option<Op>
     op_of(word, number)
 }
 
+/// A word is told by its bytes, so that it isn't compared with one after the other.
 fn op_of(word: Scalar<'_>, number: i64) -> Option<Op>
     ensures { result ≡ (if is_word (codes "set") (seen word.entry) then Some (Op.Set number)
         else if is_word (codes "add") (seen word.entry) then Some (Op.Add number)
         else if is_word (codes "take") (seen word.entry) then Some (Op.Take number) else None) }
 {
-    if word.is("set") {
-        Some(Op::Set(number))
-    } else if word.is("add") {
-        Some(Op::Add(number))
-    } else if word.is("take") {
-        Some(Op::Take(number))
-    } else {
-        None
+    match word.as_str()?.as_bytes() {
+        b"set" => Some(Op::Set(number)),
+        b"add" => Some(Op::Add(number)),
+        b"take" => Some(Op::Take(number)),
+        _ => None,
     }
 }
