@@ -50,6 +50,9 @@ fn guessed_child_on<'a>(
 {
     let (_slash, below) = path.split_first()?;
     for row in guesses.for_child(parent, below) {
+        if *row as usize >= rows.len() {
+            break;
+        }
         if let Some(rest) = rest_below(rows, *row, parent, path) {
             return Some((*row, rest));
         }

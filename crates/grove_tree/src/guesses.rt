@@ -32,11 +32,9 @@ impl Guesses {
         Ok(Guesses { slots })
     }
 
-    /// The nodes that may be the child with the name before the first slash.
+    /// The nodes that may be the child with the name before the first slash. They end where a number is no node's.
     pub(crate) fn for_child(&self, parent: u32, name: &[u8]) -> &[u32] {
-        let tries = self.slots.get(self.first(parent, name)..).unwrap_or(&[]);
-        let count = tries.iter().position(|slot| *slot == NONE);
-        &tries[..count.unwrap_or(0)]
+        self.slots.get(self.first(parent, name)..).unwrap_or(&[])
     }
 
     /// Where the child's node stands, or behind it.
