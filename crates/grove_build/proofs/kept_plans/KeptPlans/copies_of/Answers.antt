@@ -1,4 +1,5 @@
-use Rattle.std.proofs.Common.{sym, subst, arith}
+use Rattle.std.proofs.Common.{◌≤◌, length, sym, subst, arith}
+use Rattle.std.proofs.lemmas.List.{take_all}
 use Rattle.std.proofs.lemmas.Option.{slice_get_within}
 use Rattle.grove_build.specs.KeptPlans.{IsKeptIn}
 use Rattle.grove_build.proofs.Batched.{AllZip-next}
@@ -16,3 +17,8 @@ at-requires c = grind (arith, slice_get_within)
 
 pub loop-list-preserved : goal.loop-list-preserved
 loop-list-preserved c = grind (arith, AllZip-next)
+
+pub returns : goal.returns
+returns c =
+    let done : length c.args.lists.now ≤ c.loop-list.list-index = omega arith in
+    rw take_all at c.loop-list.invariant
