@@ -6,11 +6,14 @@ use Rattle.std.proofs.lemmas.List.{take-append-le}
 use Rattle.std.proofs.Math.Seq.{take-append_seam, take-append-add}
 use Rattle.std.proofs.lemmas.Option.{slice_get_within}
 use Rattle.grove_base.proofs.Lists.{get_append_left}
+use Rattle.grove_session.specs.declared.answers.AnswerFault.{AnswerFault}
+use Rattle.grove_session.specs.declared.answers.AnswerFault.TheVariants as answer
 use Rattle.grove_session.specs.declared.intake.Intake.{Intake}
 use Rattle.grove_session.specs.declared.session_fault.SessionFault.{SessionFault}
 use Rattle.grove_session.specs.declared.session_fault.SessionFault.TheVariants.{Read, Write, Memory, Turns, Foreign, Unkept}
-use Rattle.grove_session.specs.Sessions.{Lawful, IsReplied, IsAnswered, StopsBefore, StopsWithin}
-use Rattle.grove_session.specs.Intakes.{IsHeldReplied, SendsWhole, SendsInPart, Sends, AnswersNext, EndsAmong}
+use Rattle.grove_session.specs.Sessions.{Lawful, IsReplied, IsAnswered, StopsBefore, StopsWithin, fault_of}
+use Rattle.grove_session.specs.Intakes.{IsHeldReplied, SendsWhole, SendsInPart, Sends}
+use Rattle.grove_session.specs.Intakes.{FailsNext, AnswersNext, EndsAmong}
 
 -- the line behind lines
 pub get_here : (lines others : List (List ℕ)) (line : List ℕ) → slice_get (lines ++ line ∷ others) (length lines) ≡ Some line
@@ -125,3 +128,10 @@ answers_next lawful old new done line reply text (Err Foreign) more after replie
 answers_next lawful old new done line reply text (Err Unkept) more after replied is sends = absurd sends
 answers_next lawful old new done line reply text (Err Read) more after replied is sends = absurd sends
 answers_next lawful old new done line reply text (Err Turns) more after replied is sends = absurd sends
+
+-- nothing goes out for a line without an answer
+pub fails_next : {S : Type 0} (lawful : Lawful S) (old new : S) (line : Option (List ℕ)) (fault : AnswerFault)
+    → new ≡ old → FailsNext lawful old line (fault_of fault) [] new
+fails_next lawful old new line answer.Memory same = (refl, same)
+fails_next lawful old new line answer.Foreign same = (refl, same)
+fails_next lawful old new line answer.Unkept same = (refl, same)
