@@ -1,5 +1,5 @@
 -- Why a text is refused, from its rows.
-use Rattle.std.proofs.Common.{◌≡◌, ◌<◌, ◌≤◌, ℕ, List, [], ◌∷◌, Some, refl, inr, arith}
+use Rattle.std.proofs.Common.{◌≡◌, ◌<◌, ◌≤◌, ℕ, List, [], ◌∷◌, Some, refl, inl, inr, arith}
 use Rattle.std.proofs.Common.{length, slice_get, Result, Ok, Err, OnOk, IfErr}
 use Rattle.std.proofs.lemmas.Option.{none-some, same_Some}
 use Rattle.grove_table.proofs.LookedAt.{kept_all}
@@ -7,7 +7,7 @@ use Rattle.grove_table.specs.declared.fault.TableFault.{TableFault}
 use Rattle.grove_table.specs.declared.fault.TableFault.TheVariants.{Empty, Line, Unlike, Memory}
 use Rattle.grove_table.specs.Tables.{AreRowsOf}
 use Rattle.grove_table.specs.Refusals.{AreBelow, AreFaultless, IsFaultless, IsHeader, IsTextRefused}
-use Rattle.grove_table.specs.Rows.{AreRowsRefused, IsRowFault}
+use Rattle.grove_table.specs.Rows.{AreRowsRefused, IsHeaderFault, IsRowFault}
 
 -- the first row that breaks one
 pub row_refuses : (rows : List (List (List ℕ))) (place : ℕ) (row : List (List ℕ)) (fault : TableFault)
@@ -26,6 +26,15 @@ below_refuses text rows below Memory are is why = tt
 below_refuses text rows below (Line fault) are is why = (rows, are, inr (below, is, why))
 below_refuses text rows below Empty are is why = why
 below_refuses text rows below Unlike are is why = why
+
+-- or for its header
+pub header_refuses : (text : List ℕ) (header : List (List ℕ)) (below : List (List (List ℕ))) (fault : TableFault)
+    → AreRowsOf text (header ∷ below) → IsHeader header → IsHeaderFault header fault → IsTextRefused text fault
+header_refuses text header below Memory are is why = tt
+header_refuses text header below (Line fault) are is why =
+    (header ∷ below, are, inl (header, refl, is, why.0, why.1, why.2))
+header_refuses text header below Empty are is why = why
+header_refuses text header below Unlike are is why = why
 
 -- the rows of a text whose first is no header
 pub headless : (rows : List (List (List ℕ))) (first : List (List ℕ)) (more : List (List (List ℕ)))
