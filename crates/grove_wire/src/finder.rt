@@ -12,7 +12,7 @@ use std::marker::Model;
 const MARKED: usize = 4;
 
 /// A path that was looked up, and its node's number.
-#[derive(Drop)]
+#[derive(Clone, Copy, Drop)]
 pub(crate) struct Found<'v> {
     path: &'v str,
     number: u32,
@@ -39,13 +39,11 @@ impl<'t, 'v> Model for Finder<'t, 'v> {
 
 impl<'t, 'v> Finder<'t, 'v> {
     /// One that knows about so many paths at once.
+    #[tactic(auto, using(grove_base::proofs::Lists::replicate_got))]
     pub fn new(alloc: Global, tree: &'t Tree, room: usize) -> Result<Finder<'t, 'v>, AllocError>
         ensures { IfOk result (λ finder. finder ≡ tree.now) }
     {
-        let mut found = Vec::with_capacity(alloc, room)?;
-        for _slot in 0..room {
-            found.push(None)?;
-        }
+        let found = vec![in alloc; None; room]?;
         Ok(Finder { tree, found })
     }
 
