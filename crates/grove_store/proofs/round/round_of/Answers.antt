@@ -49,3 +49,14 @@ returns-clause-round g c = elim c.loop-place-test.branch [
       (read_stops (λ asked. asked.line) c.args.tree.now c.args.others.now at left
       (256 - length c.loop-place.lists.items) item (omega arith) room none)
 ]
+
+pub returns-clause-same : goal.returns-clause-same
+returns-clause-same g c = elim c.loop-place-test.branch [
+  | else-loop-place-test w ↦ w.others-is ∙ c.loop-place.invariant.same
+  | then-loop-place-test+in_ok-more+in_default w ↦ w.others-is
+      ∙ ap (λ line. set c.loop-place.others c.loop-place.place record {
+        ticket = (get_or c.loop-place.others c.loop-place.place w.index-others-place.result).ticket;
+        line = line;
+      }) w.batch_within.ensures.same
+      ∙ set-get_or c.loop-place.others c.loop-place.place w.index-others-place.result ∙ c.loop-place.invariant.same
+]

@@ -1,4 +1,5 @@
-use Rattle.std.proofs.Common.{◌-◌, ◌^◌, ◌<◌, ℕ, List, refl, length, map, drop, sym, ap, subst, ◌∙◌}
+use borrow.Rule.Slice.PartMut.{mid_of, put_mid, put_same}
+use Rattle.std.proofs.Common.{◌≡◌, ◌-◌, ◌^◌, ◌<◌, ℕ, List, refl, length, map, drop, sym, ap, subst, ◌∙◌}
 use Rattle.std.specs.Prelude.{Ok, Err, IfOk}
 use Rattle.std.proofs.lemmas.List.{take_rest}
 use Rattle.std.proofs.lemmas.Result.{IfOk-weaker}
@@ -15,6 +16,11 @@ use Rattle.grove_store.proofs.Telling.{text_made, one_made}
 use Rattle.grove_line.proofs.Lines.{fails_so}
 use Rattle.grove_store.proofs.Lawful.{first_alone, first_kept, first_round, first_other, first_run}
 use Rattle.grove_store.proofs.store.Store.begin_round.Goals as goal
+
+-- lines that are put back behind the first as they were
+put_back : {X : Type 0} (lines others now : List X) → others ≡ mid_of 1 (length lines - 1) lines → lines ≡ now
+    → put_mid 1 (length lines - 1) lines others ≡ now
+put_back lines others now same is = ap (put_mid 1 (length lines - 1) lines) same ∙ put_same 1 _ lines ∙ is
 
 pub begin_batch-requires-clause-counts : goal.begin_batch-requires-clause-counts
 begin_batch-requires-clause-counts g c = counts_all _ _ _ _ _ c.in_ok-round-in-Ok-Batch.ensures.round
@@ -174,3 +180,11 @@ returns-in_ok-replies-in-Err-clause-runs g c =
     (ap (λ (s : StoreState). s.rows) c.self.view_is) is
     (fails_so c.in-Err.fault _ made.1.0 (c.in-Err.ensures.read line others is)) refl
     (ap length made.2)
+
+pub returns-in_ok-round-in-Ok-Batch-clause-same : goal.returns-in_ok-round-in-Ok-Batch-clause-same
+returns-in_ok-round-in-Ok-Batch-clause-same g c =
+    put_back c.first_request.new.lines _ _ c.round_of.ensures.same c.first_request.ensures.same
+
+pub returns-in_err-round-in-Ok-Batch-clause-same : goal.returns-in_err-round-in-Ok-Batch-clause-same
+returns-in_err-round-in-Ok-Batch-clause-same g c =
+    put_back c.first_request.new.lines _ _ c.round_of.ensures.same c.first_request.ensures.same
