@@ -4,3 +4,4 @@ pub mod Keeping
 pub mod Turns
 pub mod Places
 pub mod Sharing
+pub mod Unhinted

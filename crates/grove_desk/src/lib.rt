@@ -10,7 +10,7 @@ pub use opening::Opening;
 pub use receipt::Receipt;
 pub use told::Told;
 pub use visit::{Visit, desk_session};
-pub use watch::{RoundWatch, Unwatched};
+pub use watch::{LineWatch, RoundWatch, Unwatched};
 
 mod answering;
 mod awaited;

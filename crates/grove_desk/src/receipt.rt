@@ -60,25 +60,24 @@ impl Receipt {
         })
     }
 
-    /// What a later receipt is compared with, without the line, and the reply.
-    pub(crate) fn into_seen(self, alloc: Global) -> (Receipt, Vec<u8>)
-        ensures seen { (result.0.number ≡ self.number) × (result.0.rounds ≡ self.rounds) }
-        ensures reply { result.1.items ≡ self.reply }
+    /// What a later receipt is compared with, without the line and the reply.
+    pub(crate) fn seen(&self, alloc: Global) -> Receipt
+        ensures { (result.number ≡ self.now.number) × (result.rounds ≡ self.now.rounds) }
     {
-        let Receipt {
-            number,
-            reply,
-            rounds,
-            ..
-        } = self;
-        let seen = Receipt {
-            number,
+        Receipt {
+            number: self.number,
             line: Vec::new(alloc),
             reply: Vec::new(alloc),
             refusal: None,
-            rounds,
-        };
-        (seen, reply)
+            rounds: self.rounds,
+        }
+    }
+
+    pub(crate) fn into_reply(self) -> Vec<u8>
+        ensures { result.items ≡ self.reply }
+    {
+        let Receipt { reply, .. } = self;
+        reply
     }
 
     /// Is it the receipt of this line?

@@ -3,12 +3,13 @@ ghost use Rattle.std.specs.Io.KnownBytes.{Appends, Consumes};
 ghost use Rattle.grove_session.specs.declared.session_fault.SessionFault.TheVariants.{Turns};
 ghost use Rattle.grove_session.specs.Sessions.{SessionEnds, is_read, is_write};
 ghost use Rattle.grove_tree.specs.Weights.{unweighed};
-ghost use Rattle.grove_desk.specs.Desks.{VisitState, IsShared};
+ghost use Rattle.grove_desk.specs.Desks.{VisitState, IsShared, Tells};
+ghost use Rattle.grove_desk.specs.Hints.{caller, MayHint};
 
 use crate::errand::Errand;
 use crate::fault::answer_fault;
 use crate::turn::Leading;
-use crate::{Desk, Opening, Receipt, RoundWatch, Told, Unwatched};
+use crate::{Desk, LineWatch, Opening, Receipt, RoundWatch, Told, Unwatched};
 use grove_session::{AnswerFault, Answers, SessionFault, Sink, Source, session};
 use grove_store::{InMemory, Keeper};
 use grove_tree::OpenGate;
@@ -17,12 +18,13 @@ use std::marker::Model;
 use std::sync::Wait;
 use std::thread::Threads;
 
-/// A visitor of a desk, whose lines are answered there one after the other.
+/// A visitor of a desk, whose lines are answered there one after the other. Its refusals have hints if it asks for them.
 #[derive(Drop)]
 pub struct Visit<'a, B: Opening, K: Keeper = InMemory, W = Unwatched> {
     desk: &'a Desk<B, K>,
-    /// What learns of the rounds that the visitor runs.
+    /// What learns of its lines and of the rounds that it runs, and words its refusals.
     watch: &'a W,
+    hints: bool,
     /// What the last line was answered.
     seen: Option<Receipt>,
     told: Told,
@@ -31,34 +33,39 @@ pub struct Visit<'a, B: Opening, K: Keeper = InMemory, W = Unwatched> {
 
 impl<'a, B: Opening, K: Keeper, W> Model for Visit<'a, B, K, W> {
     ghost use Rattle.grove_tree.specs.Weights.{unweighed};
-    ghost use Rattle.grove_desk.specs.Desks.{VisitState, rounds_seen};
+    ghost use Rattle.grove_desk.specs.Desks.{rounds_seen};
+    ghost use Rattle.grove_desk.specs.Hints.{CallerState};
 
-    ghost Value = { VisitState };
+    ghost Value = { CallerState };
 
     ghost view = { λ visit. record {
-      names = unweighed visit.desk.now.opening.rows;
-      rounds = rounds_seen visit.seen;
-      told = visit.told;
+      visit = record {
+        names = unweighed visit.desk.now.opening.rows;
+        rounds = rounds_seen visit.seen;
+        told = visit.told;
+      };
+      hints = visit.hints;
     } };
 }
 
 impl<'a, B: Opening, K: Keeper> Visit<'a, B, K> {
-    /// A visitor who has seen nothing yet.
+    /// A visitor who has seen nothing yet, and asks for no hints.
     pub fn new(desk: &'a Desk<B, K>) -> Self
-        ensures { result ≡ record { names = unweighed desk.entry.now.opening.rows; rounds = 0; told = Told.Nothing } }
+        ensures { result ≡ caller false desk.entry.now.opening }
     {
-        Visit::watched(desk, &Unwatched)
+        Visit::watched(desk, &Unwatched, false)
     }
 }
 
 impl<'a, B: Opening, K: Keeper, W> Visit<'a, B, K, W> {
-    /// A visitor who has seen nothing yet, and of whose rounds is learned.
-    pub fn watched(desk: &'a Desk<B, K>, watch: &'a W) -> Self
-        ensures { result ≡ record { names = unweighed desk.entry.now.opening.rows; rounds = 0; told = Told.Nothing } }
+    /// A visitor who has seen nothing yet, and of whose lines and rounds is learned.
+    pub fn watched(desk: &'a Desk<B, K>, watch: &'a W, hints: bool) -> Self
+        ensures { result ≡ caller hints desk.entry.now.opening }
     {
         Visit {
             desk,
             watch,
+            hints,
             seen: None,
             told: Told::Nothing,
             errand: Errand::new(Leading::Once),
@@ -78,7 +85,7 @@ impl<'a, B: Opening, K: Keeper, W> Visit<'a, B, K, W> {
 
     /// What the visitor was told last.
     pub fn told(&self) -> Told
-        ensures { result ≡ self.now.told }
+        ensures { result ≡ self.now.visit.told }
     {
         self.told
     }
@@ -89,13 +96,13 @@ impl<
     B: Opening,
     K: Keeper + Drop,
     R: Threads + Wait + Sync + AllocGlobal,
-    W: RoundWatch<R>,
+    W: RoundWatch<R> + LineWatch<R>,
 > Answers<R> for Visit<'a, B, K, W> {
     ghost use Rattle.std.specs.Prelude.{true};
     ghost use Rattle.std.specs.Thread.{IsSync};
-    ghost use Rattle.grove_desk.specs.Desks.{IsShared};
+    ghost use Rattle.grove_desk.specs.Hints.{IsCallerReply};
 
-    ghost lawful = { λ old line reply new. IsShared old line reply new };
+    ghost lawful = { λ old line reply new. IsCallerReply old line reply new };
 
     ghost is_shared = { true };
 
@@ -114,13 +121,10 @@ impl<
         );
         match answered {
             Ok(receipt) => {
-                self.told = match receipt.refusal() {
-                    Some(refusal) => Told::Refused(refusal),
-                    None => Told::Accepted,
-                };
-                let (seen, reply) = receipt.into_seen(alloc);
-                self.seen = Some(seen);
-                Ok(reply)
+                self.told = Told::of(receipt.refusal());
+                self.seen = Some(receipt.seen(alloc));
+                let reply = receipt.into_reply();
+                Ok(watched_reply(rt, self.watch, line, self.told, self.hints, reply))
             }
             Err(fault) => {
                 self.errand.lines = None;
@@ -133,6 +137,11 @@ impl<
         true
     }
 
+    fn pass_over(&self, rt: &R) {
+        self.watch.note_long_line(rt);
+        self.watch.count_line(rt);
+    }
+
     fn look_ahead(&mut self, rt: &R, bytes: &[u8]) {
         self.desk.look_ahead(rt.alloc(), &mut self.errand, bytes);
     }
@@ -140,6 +149,26 @@ impl<
     fn leave(&mut self, _rt: &R) {
         self.errand.lines = None;
     }
+}
+
+/// The reply to a line that tells this, as it goes to who visits. The watch learns of the line.
+fn watched_reply<R, W: LineWatch<R>>(
+    rt: &R,
+    watch: &W,
+    line: &[u8],
+    told: Told,
+    hints: bool,
+    reply: Vec<u8>,
+) -> Vec<u8>
+    requires { Tells told reply.items }
+    ensures { MayHint hints reply.items result.items }
+{
+    let reply = match told {
+        Told::Refused(refusal) => watch.refuse(rt, line, refusal, hints, reply),
+        Told::Nothing | Told::Accepted => reply,
+    };
+    watch.count_line(rt);
+    reply
 }
 
 /// Answers the lines of the source at the desk, one after the other, each with its reply and a line feed, and gives

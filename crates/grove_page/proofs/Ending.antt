@@ -4,7 +4,7 @@ use Rattle.std.proofs.lemmas.Bool.{lt-ltb}
 use Rattle.std.proofs.lemmas.Result.{on_ok_weaker}
 use Rattle.http_server.specs.declared.response.Response.{Response}
 use Rattle.http_server.specs.Response.{fields_of}
-use Rattle.grove_page.specs.Hints.{CallerState}
+use Rattle.grove_desk.specs.Hints.{CallerState}
 use Rattle.grove_page.specs.Pages.{has_many_lines, TakesLines, TakesBody}
 
 -- the reply to a long body, and one field more

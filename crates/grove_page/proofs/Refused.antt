@@ -13,7 +13,7 @@ use Rattle.grove_desk.specs.declared.told.Told.{Told}
 use Rattle.grove_desk.specs.declared.told.Told.TheVariants.{Nothing, Accepted, Refused}
 use Rattle.grove_desk.specs.Desks.{Tells, is_accepted}
 use Rattle.grove_page.specs.declared.front.Visited.{Visited}
-use Rattle.grove_page.specs.Hints.{caller, hinted_data, CallerState, IsCallerReply, MayHint}
+use Rattle.grove_desk.specs.Hints.{caller, hinted_data, CallerState, IsCallerReply, MayHint}
 use Rattle.grove_page.specs.Pages.{ends_refused, is_refused, Visits, VisitsDesk}
 
 -- a line feed after a reply doesn't change how it begins

@@ -8,7 +8,7 @@ use Rattle.grove_store.specs.StoreStates.{StoreState}
 use Rattle.grove_desk.specs.Histories.{Led}
 use Rattle.grove_page.specs.NodeLines.{part_of}
 use Rattle.grove_wire.specs.Replies.{error_text}
-use Rattle.grove_page.specs.Hints.{IsHinted}
+use Rattle.grove_desk.specs.Hints.{IsHinted}
 use Rattle.grove_page.specs.Pages.{json, error_line, TellsPart, TellsNoPath, TellsNone}
 
 pub tells_store : {A B L E : Type 0} (bytes_of : L → List ℕ) (line_of : StoreState

@@ -4,7 +4,7 @@ use Rattle.http_server.specs.declared.response.Response.{Response}
 use Rattle.http_server.specs.Response.{IsResponse}
 use Rattle.grove_session.specs.declared.session_fault.SessionFault.TheVariants.{Memory}
 use Rattle.grove_session.specs.Sessions.{is_write}
-use Rattle.grove_page.specs.Hints.{CallerState}
+use Rattle.grove_desk.specs.Hints.{CallerState}
 use Rattle.grove_page.specs.Pages.{json, error_line, AnswersBody}
 
 pub no_line_is_read : (before : CallerState) (body : List ℕ) (r : Response)

@@ -1,6 +1,5 @@
 pub mod Routes
 pub mod Hosts
-pub mod Hints
 pub mod Queries
 pub mod NodeLines
 pub mod NodeTexts

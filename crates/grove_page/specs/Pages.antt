@@ -23,7 +23,7 @@ use Rattle.grove_desk.specs.Desks.{is_accepted}
 use Rattle.grove_page.specs.declared.route.Route.{Route}
 use Rattle.grove_page.specs.declared.route.Route.TheVariants.{Page, Lines, Document, Nodes, Health, Metrics}
 use Rattle.grove_page.specs.declared.route.Route.TheVariants.{OnlyLook, LookOrSend, ForeignPage, Nowhere}
-use Rattle.grove_page.specs.Hints.{caller, CallerState, IsCallerReply, MayHint}
+use Rattle.grove_desk.specs.Hints.{caller, CallerState, IsCallerReply, MayHint}
 use Rattle.grove_page.specs.declared.nodes.Part.{Part}
 use Rattle.grove_page.specs.Hosts.{IsForHere}
 use Rattle.grove_page.specs.Queries.{NodesQuery, IsRead}

@@ -2,7 +2,7 @@ ghost use Rattle.std.specs.Prelude.{◌≡◌, [], false, List, ℕ, Some, IfOk}
 ghost use Rattle.grove_store.specs.StoreStates.{StoreState};
 ghost use Rattle.grove_desk.specs.Desks.{TellsLater};
 ghost use Rattle.grove_desk.specs.Histories.{Led};
-ghost use Rattle.grove_page.specs.Hints.{caller};
+ghost use Rattle.grove_desk.specs.Hints.{caller};
 ghost use Rattle.grove_page.specs.Pages.{VisitsDesk, ends_refused, is_refused};
 
 use crate::RepliesSink;

@@ -3,7 +3,8 @@ ghost use Rattle.serde_json.specs.View.{view};
 ghost use Rattle.serde_json.specs.Written.{compact_text};
 ghost use Rattle.grove_base.specs.Hints.{IsHint};
 ghost use Rattle.grove_wire.specs.Replies.{error_text};
-ghost use Rattle.grove_page.specs.Hints.{hinted_data, IsHinted};
+ghost use Rattle.grove_store.specs.Refusals.{refusal_name};
+ghost use Rattle.grove_desk.specs.Hints.{hinted_data, IsHinted, MayHint};
 
 use grove_base::{Hint, NoMemory};
 use grove_hint::{hint_of_path, hint_of_request};
@@ -29,6 +30,31 @@ pub fn hint_of_refusal(
     match refusal {
         Refusal::Fault(fault) => hint_of_request(alloc, tree, line, *fault),
         Refusal::Rounds => Hint::new(alloc, NO_MORE_ROUNDS),
+    }
+}
+
+/// The reply to a line that is refused so, and its hint: the reply that was made if no hint is asked for, or there is no
+/// memory for one.
+pub fn with_hint(
+    alloc: Global,
+    hints: bool,
+    tree: Option<&Tree>,
+    line: &[u8],
+    refusal: Refusal,
+    reply: Vec<u8>,
+) -> (Vec<u8>, Option<Hint>)
+    requires { reply.items ≡ error_text (refusal_name refusal) }
+    ensures { MayHint hints reply.items result.0.items }
+{
+    if !hints {
+        return (reply, None);
+    }
+    let Ok(hint) = hint_of_refusal(alloc, tree, line, &refusal) else {
+        return (reply, None);
+    };
+    match hinted_reply(alloc, refusal.name(), &hint) {
+        Ok(hinted) => (hinted, Some(hint)),
+        Err(NoMemory) => (reply, None),
     }
 }
 

@@ -2,9 +2,7 @@
 #![tactic(auto)]
 
 pub use front::{Front, Visited};
-pub use hinted_visit::HintedVisit;
-pub use hints::hint_of_refusal;
-pub use line_watch::LineWatch;
+pub use hints::{hint_of_refusal, with_hint};
 pub use page::PAGE;
 pub use paths::Paths;
 pub use replies_sink::{MOST_REPLIES, RepliesSink};
@@ -14,10 +12,8 @@ pub use serving::{MOST_BODY, Site, serve_page};
 pub use visiting::visit;
 
 mod front;
-mod hinted_visit;
 mod hints;
 mod hosts;
-mod line_watch;
 mod lines;
 mod nodes;
 mod origin;

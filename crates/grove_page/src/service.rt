@@ -11,7 +11,7 @@ ghost use Rattle.grove_page.specs.NodeLines.{part_of};
 ghost use Rattle.grove_store.specs.StoreStates.{StoreState};
 ghost use Rattle.grove_desk.specs.Desks.{TellsLater};
 ghost use Rattle.grove_desk.specs.Histories.{Led};
-ghost use Rattle.grove_page.specs.Hints.{caller};
+ghost use Rattle.grove_desk.specs.Hints.{caller};
 
 use crate::hints::hinted_no_path;
 use crate::hosts::is_for_here;

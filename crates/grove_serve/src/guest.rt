@@ -5,8 +5,8 @@ use crate::log::Log;
 use crate::service::Talk;
 use crate::slots::Slots;
 use grove_base::Hint;
-use grove_desk::{Receipt, RoundWatch};
-use grove_page::{LineWatch, hint_of_refusal};
+use grove_desk::{LineWatch, Receipt, RoundWatch};
+use grove_page::{hint_of_refusal, with_hint};
 use grove_store::Refusal;
 use std::alloc::{AllocGlobal, Global};
 use std::cell::Cell;
@@ -131,19 +131,26 @@ impl<'a, R: Clock> RoundWatch<R> for Guest<'a> {
 
 impl<'a, R: Wait + Clock + Eprint + AllocGlobal> LineWatch<R> for Guest<'a> {
     /// Without a hint in the reply the log has one of its own.
-    fn note_refusal(&self, rt: &R, line: &[u8], refusal: &Refusal, hint: Option<&Hint>) {
-        let name = refusal.name();
-        match hint {
-            Some(hint) => self.note_refused(rt, name, Some(unlabelled(hint.as_str()))),
-            None => {
-                let hint = self.logged_hint(rt.alloc(), line, refusal);
-                self.note_refused(
-                    rt,
-                    name,
-                    hint.as_ref().map(|hint| unlabelled(hint.as_str())),
-                );
-            }
-        }
+    fn refuse(
+        &self,
+        rt: &R,
+        line: &[u8],
+        refusal: Refusal,
+        hints: bool,
+        reply: Vec<u8>,
+    ) -> Vec<u8> {
+        let alloc = rt.alloc();
+        let (reply, hint) = with_hint(alloc, hints, self.slots.tree(), line, refusal, reply);
+        let hint = match hint {
+            Some(hint) => Some(hint),
+            None => self.logged_hint(alloc, line, &refusal),
+        };
+        self.note_refused(
+            rt,
+            refusal.name(),
+            hint.as_ref().map(|hint| unlabelled(hint.as_str())),
+        );
+        reply
     }
 
     fn note_long_line(&self, rt: &R) {

@@ -2,15 +2,15 @@
 ghost use Rattle.std.specs.Prelude.{◌≡◌, ◌<◌, ◌^◌, true, false, List, ℕ};
 ghost use Rattle.std.specs.Io.KnownBytes.{Appends, Consumes};
 ghost use Rattle.grove_session.specs.Sessions.{SessionEnds};
-ghost use Rattle.grove_page.specs.Hints.{caller, CallerState, IsCallerReply};
+ghost use Rattle.grove_desk.specs.Hints.{caller, CallerState, IsCallerReply};
 
 use crate::guest::Guest;
 use crate::host::Host;
 use crate::leaving::has_left;
 use crate::metrics_text::metrics_text;
 use grove_base::NoMemory;
-use grove_desk::{Awaited, Desk, DeskFault, Opening};
-use grove_page::{Front, HintedVisit, RepliesSink, Visited, visit};
+use grove_desk::{Awaited, Desk, DeskFault, Opening, Visit};
+use grove_page::{Front, RepliesSink, Visited, visit};
 use grove_session::{SessionFault, Sink, Source, session};
 use grove_store::{Keeper, Store};
 use std::alloc::AllocGlobal;
@@ -21,18 +21,6 @@ use std::time::{Clock, Duration};
 
 /// For so many seconds a round is waited for.
 const LONGEST_WAIT: u64 = 30;
-
-/// A visitor who has seen nothing yet and whose lines the guest counts and logs, with hints in refusals if these are
-/// asked for.
-fn visitor_for<'a, B: Opening, K: Keeper>(
-    desk: &'a Desk<B, K>,
-    guest: &'a Guest<'a>,
-    hints: bool,
-) -> HintedVisit<'a, B, K, Guest<'a>>
-    ensures { result ≡ caller hints desk.entry.now.opening }
-{
-    HintedVisit::new(desk, guest, hints, guest.slots().tree())
-}
 
 /// Answers the lines of the guest's source at the desk, one after the other, with hints in refusals if these are asked
 /// for.
@@ -53,7 +41,7 @@ pub fn session_at<'a, B: Opening, K: Keeper + Drop, R: Host, I: Source, O: Sink>
         × SessionEnds true IsCallerReply (caller hints desk.now.opening) result (I.remaining source.new)
         input out new }
 {
-    let mut visitor = visitor_for(desk, guest, hints).together();
+    let mut visitor = Visit::watched(desk, guest, hints).together();
     session(rt, &mut visitor, source, sink)
 }
 
@@ -122,7 +110,7 @@ impl<'a, B: Opening, K: Keeper + Drop, R: Host> Front<R> for ServedDesk<'a, B, K
 
     fn answer(&self, rt: &R, lines: &[u8], hints: bool, sink: &mut RepliesSink) -> Visited {
         let _turn = self.guest.slots().turn_of_body(rt, lines.len());
-        let mut visitor = visitor_for(self.desk, self.guest, hints);
+        let mut visitor = Visit::watched(self.desk, self.guest, hints);
         let ended = visit(rt, &mut visitor, lines, sink);
         self.note_end(rt, ended);
         Visited::new(ended, visitor.told())

@@ -2,7 +2,7 @@
 use Rattle.std.proofs.Common.{rules}
 use Rattle.std.specs.Option.{option_copied}
 use Rattle.grove_desk.specs.Histories.{IsDeskReceipt}
-use Rattle.grove_desk.specs.Receipts.{ComesAfter, IsForeignReceipt}
+use Rattle.grove_desk.specs.Receipts.{IsForeignReceipt}
 use Rattle.grove_desk.proofs.desk.Desk.checked.Goals as goal
 use Rattle.grove_desk.proofs.desk.Desk.checked.Goals.{else-is_of-via-then-is_of+else-follows, else-is_of-via-else-is_of}
 

@@ -1,7 +1,7 @@
 use Rattle.std.proofs.Common.{◌≡◌, [], ◌∷◌, ◌++◌, codes, subst, OnOk}
 use Rattle.http_header.specs.FieldValue.{FieldValue}
 use Rattle.http_server.specs.Response.{fields_of}
-use Rattle.grove_page.specs.Hints.{caller}
+use Rattle.grove_desk.specs.Hints.{caller}
 use Rattle.grove_page.proofs.Ending.{ends_after}
 use Rattle.grove_page.proofs.service.PageService.take_body.Goals as goal
 

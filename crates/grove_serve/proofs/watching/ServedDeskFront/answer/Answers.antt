@@ -1,7 +1,7 @@
 use Rattle.std.proofs.Common.{◌≡◌, true, subst}
 use Rattle.grove_desk.specs.Desks.{DeskState}
 use Rattle.grove_desk.specs.declared.told.Told.{Told}
-use Rattle.grove_page.specs.Hints.{caller, CallerState, IsCallerReply}
+use Rattle.grove_desk.specs.Hints.{caller, CallerState, IsCallerReply}
 use Rattle.grove_page.specs.Pages.{ends_refused, is_refused, Visits, VisitsDesk}
 use Rattle.grove_page.proofs.Refused.{answered}
 use Rattle.grove_serve.proofs.watching.ServedDeskFront.answer.Goals as goal
@@ -18,4 +18,4 @@ returns g c =
     let both : Answers c.args.self.now = subst Answers c.self.view_is
     (answered c.args.hints c.self.inside.desk.now.opening c.args.lines.now c.visit-ended.result out
     c.visit-ended.new.answers c.new.result c.new.ensures.ended (subst Tells c.told.ensures c.new.ensures.refused)
-    (subst Begins c.visitor_for-visitor.ensures visits)) in (out, holds, both.0, both.1)
+    (subst Begins c.watched-visitor.ensures visits)) in (out, holds, both.0, both.1)

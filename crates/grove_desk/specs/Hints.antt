@@ -1,4 +1,4 @@
--- Replies to a visitor of a desk, whose refusals have hints if that is asked for.
+-- Replies to a visitor of a desk, whose refusals have hints if it asks for them.
 use Rattle.std.specs.Prelude.{◌≡◌, ◌⊎◌, ◌++◌, ℕ, Bool, true, false, List, codes}
 use Rattle.serde_json.specs.Data.{Data, string, object, no_members, member}
 use Rattle.serde_json.specs.Written.{compact_text}
